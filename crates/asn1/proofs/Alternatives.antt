@@ -8,7 +8,8 @@ use Rattle.bcder.specs.x690.Tree.{Tree}
 use Rattle.bcder.specs.x690.Encoding.{IsHeader, IsEncoding}
 use Rattle.bcder.specs.declared.decode.content.State.TheVariants.{Ended, Failed}
 use Rattle.bcder.specs.calls.CapturingValues.{BeginsDeep, LeadDeep}
-use Rattle.bcder.specs.calls.Content.{Reading, Octets, Moves, Falls, Asked, any, tagged, HasHeader, HasOther, HasMarker, IsAbsent, IsElsewhere, none_left, other, marker}
+use Rattle.bcder.specs.calls.Content.{Reading, Octets, Moves, Falls, Asked, any, tagged, HasHeader, HasOther}
+use Rattle.bcder.specs.calls.Content.{HasMarker, IsAbsent, IsElsewhere, none_left, other, marker}
 use Rattle.bcder.specs.calls.Content.{EndsBefore, IsDone, IsUsedUp, IndefiniteValues, of_octets, of_definite, of_indefinite, of_unbounded}
 use Rattle.bcder.specs.calls.Takes.{HasNone}
 use Rattle.bcder.specs.calls.Walking.{HasValue}
@@ -17,7 +18,8 @@ use Rattle.bcder.proofs.Lemmas.{IsWithinOwed, as_many_are_no_fewer, grew_in_betw
 use Rattle.bcder.proofs.Lemmas.{open_has_not_ended, open_has_not_failed}
 use Rattle.asn1.specs.declared.choice.Choice2.{Choice2}
 use Rattle.asn1.specs.declared.choice.Choice2.TheVariants.{One, Two}
-use Rattle.asn1.specs.Types.{HasTagged, AreEvery, HasNoneOf, elsewhere, at_end, AllocatesFor, of_header, of_depth, MayHave, by_tags, by_end, TakesTyped, HasNoTyped, RefusesTyped, TakesNextTyped}
+use Rattle.asn1.specs.Types.{HasTagged, AreEvery, HasNoneOf, elsewhere, at_end, AllocatesFor, of_header, of_depth, MayHave}
+use Rattle.asn1.specs.Types.{by_tags, by_end, TakesTyped, HasNoTyped, RefusesTyped, TakesNextTyped}
 use Rattle.asn1.specs.Types as types
 use Rattle.asn1.specs.Choices.{EitherTag, IsChoice}
 use Rattle.asn1.proofs.Lacking.{first_lacks, second_lacks}

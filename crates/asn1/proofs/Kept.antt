@@ -99,7 +99,8 @@ one_captured {c} {d} {k} h = record { tree = h.tree; encodes = subst (λ m. IsEn
 pub kept_read_back : (asked : Tag) (mode : Mode) (x : Kept) → IsOneValue x → IsReadAs (Every asked) (KeepsValue mode) kept_value x (KeptMeans x mode)
 kept_read_back asked mode x o e m =
     let one : e.values ≡ o.tree ∷ₜ no_trees = one_list x.mode e.values (o.tree ∷ₜ no_trees) x.octets m.1 (AreEncodings-one x.mode o.tree x.octets o.encodes) in
-    let there : IsEncoding mode o.tree x.octets = alone (AreEncodings-suits x.mode mode (o.tree ∷ₜ no_trees) x.octets m.0 (AreEncodings-one x.mode o.tree x.octets o.encodes)) in
+    let there : IsEncoding mode o.tree x.octets =
+    alone (AreEncodings-suits x.mode mode (o.tree ∷ₜ no_trees) x.octets m.0 (AreEncodings-one x.mode o.tree x.octets o.encodes)) in
     let read : Kept = record { mode = mode; octets = x.octets; start = 0 } in
     record {
       tree = o.tree;

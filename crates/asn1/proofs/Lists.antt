@@ -12,7 +12,8 @@ use Rattle.bcder.specs.calls.Content.{Reading, Moves}
 use Rattle.bcder.specs.calls.Valued.{HoldsValues}
 use Rattle.bcder.specs.laws.Moved.{untouched_is_moved, moved_twice_is_moved}
 use Rattle.bcder.proofs.Lemmas.{IsWithinOwed, as_many_are_no_fewer, grew_in_between, shorter_by_a_value}
-use Rattle.asn1.specs.Types.{HasNoneOf, TakesTyped, HasNoTyped, RefusesTyped, TakesNextTyped, AreList, items_of, TakesFields, HoldsNoFields, RefusesFields, ReadsFields}
+use Rattle.asn1.specs.Types.{HasNoneOf, TakesTyped, HasNoTyped, RefusesTyped, TakesNextTyped, AreList, items_of}
+use Rattle.asn1.specs.Types.{TakesFields, HoldsNoFields, RefusesFields, ReadsFields}
 use Rattle.asn1.specs.Types as types
 use Rattle.asn1.proofs.Reading.{AreTags, passes, member_before, behind_first, member_tagged, tagged_first, none_before, none_behind, no_member, no_optional}
 use Rattle.asn1.proofs.Reading.{member_missing, failed_holds_none}

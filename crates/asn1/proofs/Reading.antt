@@ -20,7 +20,8 @@ use Rattle.bcder.specs.laws.Moved.{whole_marked}
 use Rattle.bcder.proofs.Lemmas.{open_has_not_ended, open_has_not_failed, IsWithinOwed, values_after, values_with_one_more, trees_with_one_more}
 use Rattle.bcder.proofs.Lemmas.{no_values_at_the_end as none_left_values, no_trees_at_the_end as none_left_trees, done_is_at_its_end}
 use Rattle.bcder.proofs.Lemmas.{no_values_without_a_first, header_is_there, one_values, no_values_of_octets, header_of_tagged}
-use Rattle.asn1.specs.Types.{AreEvery, HasNoneOf, elsewhere, at_end, by_tags, by_end, TakesTyped, HasNoTyped, RefusesTyped, TakesNextTyped, IsMember, BeginWithout, IsOptional, AreBoth, TakesFields}
+use Rattle.asn1.specs.Types.{AreEvery, HasNoneOf, elsewhere, at_end, by_tags, by_end, TakesTyped, HasNoTyped, RefusesTyped}
+use Rattle.asn1.specs.Types.{TakesNextTyped, IsMember, BeginWithout, IsOptional, AreBoth, TakesFields}
 use Rattle.asn1.specs.Types.{HoldsNoFields, RefusesFields, ReadsFields}
 use Rattle.asn1.specs.Types as types
 use Rattle.asn1.proofs.Members.{no_cons, cons_rest, cons_first}

@@ -42,7 +42,8 @@ module _ {A V X : Type 0} {lacks : Bool} (Tags Others : Tag → Type 0) (to : (t
 
   pub retagged_none : TakesNextTyped Tags Means lacks {X = X} c (Ok None) d
       → TakesNextTyped Others (λ (t : Tree) (x : V). Means t (view x)) lacks {X = X} c (Ok None) d
-  retagged_none r = record { value = tt; none = none_seen Tags Others to back c d r.none; no_fault = r.no_fault; refused = tt; failed = tt; mode = r.mode; marked = r.marked }
+  retagged_none r =
+      record { value = tt; none = none_seen Tags Others to back c d r.none; no_fault = r.no_fault; refused = tt; failed = tt; mode = r.mode; marked = r.marked }
 
   pub retagged_refuses : (e : DecodeError X) → TakesNextTyped Tags Means lacks c (Err e) d
       → TakesNextTyped Others (λ (t : Tree) (x : V). Means t (view x)) lacks c (Err e) d

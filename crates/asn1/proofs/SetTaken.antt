@@ -198,7 +198,8 @@ pub joined_octets : (mode : Mode) (ks : List Kept) (k : Kept) → HoldsMeant (Jo
 joined_octets mode ks k h = ap (λ (z : Kept). z.octets) h.holds ∙ flat_of mode ks h.what h.meant.0
 
 -- the same error of another source
-pub members_converted : {T X : Type 0} {lacks : Bool} (mode : Mode) (Takes : Trees → T → Trees → Type 0) (s : Stream) (e : DecodeError Infallible) (f : DecodeError X)
+pub members_converted : {T X : Type 0} {lacks : Bool} (mode : Mode) (Takes : Trees → T → Trees → Type 0) (s : Stream)
+    (e : DecodeError Infallible) (f : DecodeError X)
     → cause_of f ≡ cause_of e → RefusesFieldsOf mode Takes lacks s e → RefusesMembers mode Takes s.rest f
 members_converted mode Takes s e f q (decoded.RefusesFieldsOf.source later c g) = absurd (never_of_source e c)
 members_converted mode Takes s e f q (decoded.RefusesFieldsOf.memory c l) = inl (q ∙ c)

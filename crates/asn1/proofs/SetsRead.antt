@@ -299,7 +299,8 @@ never_of_source (Content error pos) h = cc
 never_of_source NoMemory h = cc
 
 -- the same error of another source
-pub converted : {T X : Type 0} {lacks : Bool} (mode : Mode) (Tags : Tag → Type 0) (Means : Tree → T → Type 0) (s : Stream) (e : DecodeError Infallible) (f : DecodeError X)
+pub converted : {T X : Type 0} {lacks : Bool} (mode : Mode) (Tags : Tag → Type 0) (Means : Tree → T → Type 0) (s : Stream)
+    (e : DecodeError Infallible) (f : DecodeError X)
     → cause_of f ≡ cause_of e → RefusesAll mode Tags Means lacks s e → RefusesOctets mode Tags Means s.rest f
 converted mode Tags Means s e f q (decoded.RefusesAll.source later c g) = absurd (never_of_source e c)
 converted mode Tags Means s e f q (decoded.RefusesAll.memory c l) = inl (q ∙ c)

@@ -1,5 +1,6 @@
 -- Values are told apart by sets of tags.
-use Rattle.std.proofs.Common.{◌≡◌, ℕ, Bool, true, false, not, ◌&&◌, List, [], ◌∷◌, Option, Some, None, refl, sym, ◌∙◌, ap, subst, inl, inr, nat_eq, arith, ◌<◌, ◌≤◌, ◌+◌, ◌⊎◌, length}
+use Rattle.std.proofs.Common.{◌≡◌, ℕ, Bool, true, false, not, ◌&&◌, List, [], ◌∷◌, Option, Some, None, refl, sym, ◌∙◌}
+use Rattle.std.proofs.Common.{ap, subst, inl, inr, nat_eq, arith, ◌<◌, ◌≤◌, ◌+◌, ◌⊎◌, length}
 use Rattle.std.specs.Prelude.{Ok, Decides, MatchOption, All, slice_index_or}
 use Rattle.std.proofs.Math.Nat.{eq-or-lt_of_le}
 use Rattle.std.proofs.lemmas.List.{get_or_default}
@@ -48,7 +49,8 @@ not_true false p q = cc
 
 not_among : (t : Tag) (us : List Tag) → is_not_among t us ≡ true → IsAmong t us → ⊥
 not_among t [] e k = absurd k
-not_among t (u ∷ us) e (inl p) = not_true (is_same_tag t u) (subst (λ z. is_same_tag t z ≡ true) p (same_tag t)) (both_true (not (is_same_tag t u)) (is_not_among t us) e).0
+not_among t (u ∷ us) e (inl p) =
+    not_true (is_same_tag t u) (subst (λ z. is_same_tag t z ≡ true) p (same_tag t)) (both_true (not (is_same_tag t u)) (is_not_among t us) e).0
 not_among t (u ∷ us) e (inr k) = not_among t us (both_true (not (is_same_tag t u)) (is_not_among t us) e).1 k
 
 none_among : (t : Tag) (ts us : List Tag) → are_not_among ts us ≡ true → IsAmong t ts → IsAmong t us → ⊥

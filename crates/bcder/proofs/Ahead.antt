@@ -14,7 +14,8 @@ use Rattle.bcder.specs.calls.Cause.{Cause, cause_of, IsOfContent}
 use Rattle.bcder.specs.x690.Identifier.{Tag}
 use Rattle.bcder.specs.steps.Peek.{is_constructed, len_of, header_of, octets_header}
 use Rattle.bcder.specs.calls.Stream.{Grew}
-use Rattle.bcder.specs.calls.Content.{Reading, Asked, tagged, Enters, HasMarker, HasOther, Resembles, IsElsewhere, none_left, other, marker, IsAbsent, IsLeft, RefusesHeader, failed, source, nothing}
+use Rattle.bcder.specs.calls.Content.{Reading, Asked, tagged, Enters, HasMarker, HasOther, Resembles, IsElsewhere, none_left}
+use Rattle.bcder.specs.calls.Content.{other, marker, IsAbsent, IsLeft, RefusesHeader, failed, source, nothing}
 use Rattle.bcder.specs.steps.Entering.{EntersOctets}
 use Rattle.bcder.specs.calls.Takes.{HasNone, TakesNext, by_form}
 use Rattle.bcder.proofs.Entering.{looked_enters, header_entered, no_fewer}
@@ -23,7 +24,16 @@ use Rattle.bcder.proofs.Taking.{next_refused}
 use Rattle.bcder.proofs.Naming.{looked_alike, header_alike, named_alike}
 
 alike : (c d : Reading) → Resembles c d → Resembles d c
-alike c d s = record { rest = sym s.rest; kept = sym s.kept; owed = sym s.owed; kind = sym s.kind; state = sym s.state; mode = sym s.mode; marked = sym s.marked; name = sym s.name }
+alike c d s = record {
+  rest = sym s.rest;
+  kept = sym s.kept;
+  owed = sym s.owed;
+  kind = sym s.kind;
+  state = sym s.state;
+  mode = sym s.mode;
+  marked = sym s.marked;
+  name = sym s.name;
+}
 
 elsewhere_alike : (c d : Reading) (s : Resembles c d) (t : Tag) (after : List ℕ) → IsElsewhere t c after → IsElsewhere t d after
 elsewhere_alike c d s t after (none_left e f) = none_left (s.rest ∙ e) f
@@ -59,10 +69,18 @@ module _ (c d e : Reading) (s : Resembles c d) (f : d.stream.faults ≡ c.stream
 
   form_ahead : HasForm true (tagged t) d → HasForm true (tagged t) c
   unfolding header_alike
-  form_ahead x = record { usable = sym s.state ∙ x.usable; after = x.after; front = header_alike c d (looked_alike c d s) (tagged t) x.after x.front; is = x.is }
+  form_ahead x =
+      record { usable = sym s.state ∙ x.usable; after = x.after; front = header_alike c d (looked_alike c d s) (tagged t) x.after x.front; is = x.is }
 
   pub ahead : {E : Type 0} (why : E → Cause ContentError) (r : Result (Option ℕ) E) → EntersOctets why t d r e → EntersOctets why t c r e
-  ahead why (Ok (Some n)) p = record { entered = looked_enters c d s (no_fewer _ _ f) f _ e p.entered; none = tt; refused = tt; failed = tt; mode = p.mode ∙ s.mode; marked = p.marked ∙ s.marked }
+  ahead why (Ok (Some n)) p = record {
+    entered = looked_enters c d s (no_fewer _ _ f) f _ e p.entered;
+    none = tt;
+    refused = tt;
+    failed = tt;
+    mode = p.mode ∙ s.mode;
+    marked = p.marked ∙ s.marked;
+  }
   ahead why (Ok None) p = record { entered = tt; none = none_ahead p.none; refused = tt; failed = tt; mode = p.mode ∙ s.mode; marked = p.marked ∙ s.marked }
   ahead why (Err x) p = record {
     entered = tt;
@@ -89,18 +107,26 @@ abbrev IsOfCause : {X : Type 0} → Cause ContentError → DecodeError X → Typ
 IsOfCause s e = cause_of e ≡ s
 
 -- what a take says where no header was passed
-module _ {C T X S : Type 0} (view : C → Reading) (post : Tag → MutBor C → Result T (DecodeError X) → MutBor C → Type 0) (c d : Reading) (mode : d.mode ≡ c.mode) (t : Tag) where
-  pub next_stopped : (stopped : S → Cause ContentError) (s : S) (e : DecodeError X) → IsOfCause (stopped s) e → d.marked ≡ c.marked → d.state ≡ Failed → RefusesHeader stopped (tagged t) c s d ⊎ HasForm true (tagged t) c × IsOfContent (stopped s) → TakesNext view post (Some true) (tagged t) c (Err e) d
-  next_stopped stopped s e same m f (inl h) = next_refused view post (Some true) (tagged t) c d mode e (header_stopped stopped cause_of s e same c d (tagged t) h) m f
-  next_stopped stopped s e same m f (inr x) = record { value = tt; shorter = tt; none = tt; refused = by_form x.0 (subst IsOfContent (sym same) x.1) m; failed = f; mode = mode }
+module _ {C T X S : Type 0} (view : C → Reading) (post : Tag → MutBor C → Result T (DecodeError X) → MutBor C → Type 0) (c d : Reading)
+    (mode : d.mode ≡ c.mode) (t : Tag) where
+  pub next_stopped : (stopped : S → Cause ContentError) (s : S) (e : DecodeError X) → IsOfCause (stopped s) e → d.marked ≡ c.marked → d.state ≡ Failed
+      → RefusesHeader stopped (tagged t) c s d ⊎ HasForm true (tagged t) c × IsOfContent (stopped s) → TakesNext view post (Some true) (tagged t) c (Err e) d
+  next_stopped stopped s e same m f (inl h) =
+      next_refused view post (Some true) (tagged t) c d mode e (header_stopped stopped cause_of s e same c d (tagged t) h) m f
+  next_stopped stopped s e same m f (inr x) =
+      record { value = tt; shorter = tt; none = tt; refused = by_form x.0 (subst IsOfContent (sym same) x.1) m; failed = f; mode = mode }
 
-  -- the same of an answer
-  pub next_stops : (stopped : S → Cause ContentError) (s : S) (r : Result (Option T) (DecodeError X)) → IsErrAnd r (IsOfCause (stopped s)) → d.marked ≡ c.marked → d.state ≡ Failed → RefusesHeader stopped (tagged t) c s d ⊎ HasForm true (tagged t) c × IsOfContent (stopped s) → TakesNext view post (Some true) (tagged t) c r d
+  -- a result that is an error of this cause refuses the next value
+  pub next_stops : (stopped : S → Cause ContentError) (s : S) (r : Result (Option T) (DecodeError X)) → IsErrAnd r (IsOfCause (stopped s)) → d.marked ≡ c.marked
+      → d.state ≡ Failed → RefusesHeader stopped (tagged t) c s d ⊎ HasForm true (tagged t) c × IsOfContent (stopped s)
+      → TakesNext view post (Some true) (tagged t) c r d
   next_stops stopped s (Err e) y m f h = next_stopped stopped s e y m f h
   next_stops stopped s (Ok _) y m f h = elim y [ ]
 
--- the same of a value of any form
-module _ {C T X S : Type 0} (view : C → Reading) (post : Tag → MutBor C → Result T (DecodeError X) → MutBor C → Type 0) (form : Option Bool) (asked : Asked) (c d : Reading) (mode : d.mode ≡ c.mode) where
-  pub next_answered : (stopped : S → Cause ContentError) (s : S) (r : Result (Option T) (DecodeError X)) → IsErrAnd r (IsOfCause (stopped s)) → d.marked ≡ c.marked → d.state ≡ Failed → RefusesHeader stopped asked c s d → TakesNext view post form asked c r d
+-- a value of any form was refused at its header
+module _ {C T X S : Type 0} (view : C → Reading) (post : Tag → MutBor C → Result T (DecodeError X) → MutBor C → Type 0) (form : Option Bool) (asked : Asked)
+    (c d : Reading) (mode : d.mode ≡ c.mode) where
+  pub next_answered : (stopped : S → Cause ContentError) (s : S) (r : Result (Option T) (DecodeError X)) → IsErrAnd r (IsOfCause (stopped s))
+      → d.marked ≡ c.marked → d.state ≡ Failed → RefusesHeader stopped asked c s d → TakesNext view post form asked c r d
   next_answered stopped s (Err e) y m f h = next_refused view post form asked c d mode e (header_stopped stopped cause_of s e y c d asked h) m f
   next_answered stopped s (Ok _) y m f h = elim y [ ]

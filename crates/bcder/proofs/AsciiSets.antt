@@ -77,12 +77,14 @@ module _ (has : ℕ → Bool) where
         not ((accepts_all text).1 (subst (AllHave has) (sym own) all))
 
     -- what `from_str` answers, by a test of the text's own octets
-    pub lent : (text w v : List ℕ) (t : Bool) → w ≡ text → v ≡ text → t ≡ true → IsTrue t ↔ IsOfSet (one_octet_step has) w → Spells (one_octet_step has) v (chars text)
+    pub lent : (text w v : List ℕ) (t : Bool) → w ≡ text → v ≡ text → t ≡ true → IsTrue t ↔ IsOfSet (one_octet_step has) w
+        → Spells (one_octet_step has) v (chars text)
     lent text w v t is own passed h =
         let a : IsOfSet (one_octet_step has) text = subst (IsOfSet (one_octet_step has)) is (h.0 passed) in
         subst (λ (u : List ℕ). Spells (one_octet_step has) u (chars text)) (sym own) (text_spelled text a)
 
-    pub refused : (text w : List ℕ) (t : Bool) → IsUtf8 text → w ≡ text → t ≡ false → IsTrue t ↔ IsOfSet (one_octet_step has) w → HasNo (one_octet_step has) (chars text)
+    pub refused : (text w : List ℕ) (t : Bool) → IsUtf8 text → w ≡ text → t ≡ false → IsTrue t ↔ IsOfSet (one_octet_step has) w
+        → HasNo (one_octet_step has) (chars text)
     refused text w t utf8 is failed h =
         λ v spelt. not_spelled text v utf8 (λ a. let e : true ≡ false = sym (h.1 (subst (IsOfSet (one_octet_step has)) (sym is) a)) ∙ failed in absurd cc) spelt
 

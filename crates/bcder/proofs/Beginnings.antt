@@ -1,5 +1,6 @@
 -- What is read at the front of octets, and at the front of the same octets with others behind them.
-use Rattle.std.proofs.Common.{◌≡◌, ℕ, zero, suc, ◌+◌, ◌-◌, ◌%◌, ◌<◌, ◌≤◌, Bool, true, false, cond, List, [], ◌∷◌, ◌++◌, length, get_or, take, drop, Option, Some, None, option_map, option_and_then, refl, sym, ap, ap₂, ◌∙◌, append_assoc, arith, inl, inr, subst}
+use Rattle.std.proofs.Common.{◌≡◌, ℕ, zero, suc, ◌+◌, ◌-◌, ◌%◌, ◌<◌, ◌≤◌, Bool, true, false, cond, List, [], ◌∷◌, ◌++◌, length, get_or, take, drop, Option}
+use Rattle.std.proofs.Common.{Some, None, option_map, option_and_then, refl, sym, ap, ap₂, ◌∙◌, append_assoc, arith, inl, inr, subst}
 use Rattle.std.proofs.lemmas.Bool.{cases_lt, lt-ltb, le-ltb, lt-leb, le-leb}
 use Rattle.std.proofs.lemmas.List.{length-append, take-append-le, drop_at}
 use Rattle.bcder.specs.declared.mode.Mode.{Mode}
@@ -8,7 +9,8 @@ use Rattle.bcder.specs.declared.length.Length.TheVariants.{Definite, Indefinite}
 use Rattle.bcder.specs.x690.Identifier.{AreOctets, Tag, IsTag, base128, identifier, is_value_tag}
 use Rattle.bcder.specs.x690.Length.{big_endian, AreLengthOctets}
 use Rattle.bcder.specs.x690.Encoding.{Header, may_have}
-use Rattle.bcder.specs.steps.Reading.{may_tell, read_long, read_length, third_digit, second_digit, read_number, class_of, is_marked, read_identifier, read_front, read_header, read_end, if_zero}
+use Rattle.bcder.specs.steps.Reading.{may_tell, read_long, read_length, third_digit, second_digit, read_number, class_of}
+use Rattle.bcder.specs.steps.Reading.{is_marked, read_identifier, read_front, read_header, read_end, if_zero}
 use Rattle.bcder.specs.calls.Begins.{BeginsNoIdentifier}
 use Rattle.bcder.specs.laws.Identifiers.{read_identifier-identifier, identifier_some}
 use Rattle.bcder.specs.laws.Lengths.{read_length-tells, read_end-complete}
@@ -49,7 +51,8 @@ number_none a w x h e =
       | inr le ↦ elim (cases_lt a 128) [
         | inl lt ↦ absurd (some_is_none _ (rw (le-ltb a 31 le, lt-ltb a 128 lt) at e))
         | inr more ↦ elim (cases_lt 128 a) [
-          | inl above ↦ rw (le-ltb a 31 le, le-ltb a 128 more, lt-leb a 128 above) (digits w (h above) (rw (le-ltb a 31 le, le-ltb a 128 more, lt-leb a 128 above) at e))
+          | inl above ↦ rw (le-ltb a 31 le, le-ltb a 128 more, lt-leb a 128 above)
+              (digits w (h above) (rw (le-ltb a 31 le, le-ltb a 128 more, lt-leb a 128 above) at e))
           | inr same ↦ rw (le-ltb a 31 le, le-ltb a 128 more, le-leb a 128 same) refl
         ]
       ]
@@ -98,13 +101,15 @@ long_none mode k w x h e =
           (untold (may_tell mode k (big_endian (take k w))) _ _ (rw (le-ltb 4 k le, le-ltb (length w) k enough) at e))
     ]
 
-pub length_none : (mode : Mode) (b : ℕ) (w x : List ℕ) → (b ≤ 0x84 → b ≤ length w + 0x80) → read_length mode (b ∷ w) ≡ None → read_length mode (b ∷ (w ++ x)) ≡ None
+pub length_none : (mode : Mode) (b : ℕ) (w x : List ℕ) → (b ≤ 0x84 → b ≤ length w + 0x80) → read_length mode (b ∷ w) ≡ None
+    → read_length mode (b ∷ (w ++ x)) ≡ None
 unfolding read_length
 length_none mode b w x h e =
     elim (cases_lt b 128) [
       | inl lt ↦ absurd (some_is_none _ (rw (lt-ltb b 128 lt) at e))
       | inr le ↦ elim (cases_lt 128 b) [
-        | inl above ↦ rw (le-ltb b 128 le, lt-leb b 128 above) (long_none mode (b - 128) w x (λ k. let l : b ≤ 132 = omega arith in let m = h l in omega arith) (rw (le-ltb b 128 le, lt-leb b 128 above) at e))
+        | inl above ↦ rw (le-ltb b 128 le, lt-leb b 128 above)
+            (long_none mode (b - 128) w x (λ k. let l : b ≤ 132 = omega arith in let m = h l in omega arith) (rw (le-ltb b 128 le, lt-leb b 128 above) at e))
         | inr same ↦ absurd (some_is_none _ (rw (le-ltb b 128 le, le-leb b 128 same) at e))
       ]
     ]
@@ -158,7 +163,8 @@ has_identifier w t f y o e =
       size = omega (arith, ap length i.is, length-append (identifier t f) y, identifier_size t f);
       no_more = omega (arith, ap length i.is, length-append (identifier t f) y);
       some = omega (arith, ap length i.is, length-append (identifier t f) y, identifier_some t f);
-      read = λ x. ap (λ v. read_identifier (v ++ x)) i.is ∙ ap read_identifier (append_assoc (identifier t f) y x) ∙ read_identifier-identifier t f (y ++ x) i.fits;
+      read = λ x. ap (λ v. read_identifier (v ++ x)) i.is ∙ ap read_identifier (append_assoc (identifier t f) y x)
+          ∙ read_identifier-identifier t f (y ++ x) i.fits;
     }
 
 -- length octets in front, whatever follows
@@ -177,7 +183,8 @@ has_length mode w len z o e =
       octets = l.octets;
       tells = l.tells;
       is = l.is;
-      read = λ x. ap (λ v. read_length mode (v ++ x)) l.is ∙ ap (read_length mode) (append_assoc l.octets z x) ∙ read_length-tells mode len l.octets (z ++ x) l.tells;
+      read = λ x. ap (λ v. read_length mode (v ++ x)) l.is ∙ ap (read_length mode) (append_assoc l.octets z x)
+          ∙ read_length-tells mode len l.octets (z ++ x) l.tells;
     }
 
 -- ---- both
@@ -198,7 +205,8 @@ has_front mode w h z o e =
     let d = header_sound mode w (h, z) o e in
     record {
       size = omega (arith, ap length d.is, length-append d.octets z);
-      read = λ x. ap (λ v. read_header mode (v ++ x)) d.is ∙ ap (read_header mode) (append_assoc d.octets z x) ∙ header_complete mode h.tag h.form h.len d.octets (z ++ x) d.is_header ∙ ap (λ v. Some (h, v)) (sym (behind w d.octets z x d.is));
+      read = λ x. ap (λ v. read_header mode (v ++ x)) d.is ∙ ap (read_header mode) (append_assoc d.octets z x)
+          ∙ header_complete mode h.tag h.form h.len d.octets (z ++ x) d.is_header ∙ ap (λ v. Some (h, v)) (sym (behind w d.octets z x d.is));
     }
 
 -- end-of-contents octets in front, whatever follows
@@ -211,7 +219,8 @@ has_end mode w z o e =
     let m = end_sound mode w z o e in
     record {
       size = omega (arith, ap length m.is, length-append m.marker z);
-      read = λ x. ap (λ v. read_end mode (v ++ x)) m.is ∙ ap (read_end mode) (append_assoc m.marker z x) ∙ read_end-complete mode m.marker (z ++ x) m.is_end ∙ ap Some (sym (behind w m.marker z x m.is));
+      read = λ x. ap (λ v. read_end mode (v ++ x)) m.is ∙ ap (read_end mode) (append_assoc m.marker z x) ∙ read_end-complete mode m.marker (z ++ x) m.is_end
+          ∙ ap Some (sym (behind w m.marker z x m.is));
     }
 
 -- ---- neither
@@ -231,9 +240,11 @@ no_identifier mode w e = (unread mode w e, unended mode w e)
 
 -- what is behind identifier octets, if the length l is read there
 abbrev header_behind : Mode → Tag → Bool → Option (Length × List ℕ) → Option (Header × List ℕ)
-header_behind mode t f r = cond (is_value_tag t) (option_and_then (λ l. cond (may_have mode f l.0) (Some (record { tag = t; form = f; len = l.0 }, l.1)) None) r) None
+header_behind mode t f r =
+    cond (is_value_tag t) (option_and_then (λ l. cond (may_have mode f l.0) (Some (record { tag = t; form = f; len = l.0 }, l.1)) None) r) None
 
-is_behind : (mode : Mode) (w : List ℕ) (t : Tag) (f : Bool) (y : List ℕ) → read_identifier w ≡ Some (t, f, y) → read_header mode w ≡ header_behind mode t f (read_length mode y)
+is_behind : (mode : Mode) (w : List ℕ) (t : Tag) (f : Bool) (y : List ℕ) → read_identifier w ≡ Some (t, f, y)
+    → read_header mode w ≡ header_behind mode t f (read_length mode y)
 unfolding read_header
 is_behind mode w t f y e = rw e refl
 
@@ -241,7 +252,8 @@ is_behind mode w t f y e = rw e refl
 abbrev followed : List ℕ → Option (Length × List ℕ) → Option (Length × List ℕ)
 followed x r = option_map (λ l. (l.0, l.1 ++ x)) r
 
-stays : (mode : Mode) (y x : List ℕ) → AreOctets y → (read_length mode y ≡ None → read_length mode (y ++ x) ≡ None) → read_length mode (y ++ x) ≡ followed x (read_length mode y)
+stays : (mode : Mode) (y x : List ℕ) → AreOctets y → (read_length mode y ≡ None → read_length mode (y ++ x) ≡ None)
+    → read_length mode (y ++ x) ≡ followed x (read_length mode y)
 stays mode y x o h = go (read_length mode y) refl
   where
     go : (r : Option (Length × List ℕ)) → read_length mode y ≡ r → read_length mode (y ++ x) ≡ followed x r
@@ -253,30 +265,35 @@ refused_both true true a b e = absurd (some_is_none _ e)
 refused_both true false a b e = refl
 refused_both false m a b e = refl
 
-header_refused : (mode : Mode) (t : Tag) (f : Bool) (x : List ℕ) (r : Option (Length × List ℕ)) → header_behind mode t f r ≡ None → header_behind mode t f (followed x r) ≡ None
+header_refused : (mode : Mode) (t : Tag) (f : Bool) (x : List ℕ) (r : Option (Length × List ℕ)) → header_behind mode t f r ≡ None
+    → header_behind mode t f (followed x r) ≡ None
 header_refused mode t f x None e = e
 header_refused mode t f x (Some l) e = refused_both (is_value_tag t) (may_have mode f l.0) _ _ e
 
-end_refused : (x : List ℕ) (r : Option (Length × List ℕ)) → option_and_then (λ l. if_zero l.0 l.1) r ≡ None → option_and_then (λ l. if_zero l.0 l.1) (followed x r) ≡ None
+end_refused : (x : List ℕ) (r : Option (Length × List ℕ)) → option_and_then (λ l. if_zero l.0 l.1) r ≡ None
+    → option_and_then (λ l. if_zero l.0 l.1) (followed x r) ≡ None
 end_refused x None e = e
 end_refused x (Some (Indefinite, z)) e = refl
 end_refused x (Some (Definite zero, z)) e = absurd (some_is_none _ e)
 end_refused x (Some (Definite (suc n), z)) e = refl
 
 -- length octets that are there are no others whatever follows
-pub length_stays : (mode : Mode) (y x : List ℕ) (l : Length × List ℕ) → read_length mode y ≡ Some l → read_length mode y ≡ None → read_length mode (y ++ x) ≡ None
+pub length_stays : (mode : Mode) (y x : List ℕ) (l : Length × List ℕ) → read_length mode y ≡ Some l → read_length mode y ≡ None
+    → read_length mode (y ++ x) ≡ None
 length_stays mode y x l e n = absurd (some_is_none _ (sym e ∙ n))
 
 -- octets that are no header of a value are none whatever follows, once their length octets are all there or are none
 module _ (mode : Mode) (t : Tag) (f : Bool) (x : List ℕ) where
-  pub stays_unread : (w y : List ℕ) → AreOctets w → read_identifier w ≡ Some (t, f, y) → (read_length mode y ≡ None → read_length mode (y ++ x) ≡ None) → read_header mode w ≡ None → read_header mode (w ++ x) ≡ None
+  pub stays_unread : (w y : List ℕ) → AreOctets w → read_identifier w ≡ Some (t, f, y) → (read_length mode y ≡ None → read_length mode (y ++ x) ≡ None)
+      → read_header mode w ≡ None → read_header mode (w ++ x) ≡ None
   stays_unread w y o e h n =
       let i = has_identifier w t f y o e in
       is_behind mode (w ++ x) t f (y ++ x) (i.read x)
       ∙ ap (header_behind mode t f) (stays mode y x (AreOctets-after (identifier t f) w y i.is o) h)
       ∙ header_refused mode t f x (read_length mode y) (sym (is_behind mode w t f y e) ∙ n)
 
-  pub stays_unended : (w y : List ℕ) → AreOctets w → read_identifier w ≡ Some (t, f, y) → (read_length mode y ≡ None → read_length mode (y ++ x) ≡ None) → read_end mode w ≡ None → read_end mode (w ++ x) ≡ None
+  pub stays_unended : (w y : List ℕ) → AreOctets w → read_identifier w ≡ Some (t, f, y) → (read_length mode y ≡ None → read_length mode (y ++ x) ≡ None)
+      → read_end mode w ≡ None → read_end mode (w ++ x) ≡ None
   unfolding read_end read_identifier
   stays_unended [] y o e h n = absurd (none_is _ e)
   stays_unended (suc b ∷ w) y o e h n = refl
@@ -286,14 +303,18 @@ module _ (mode : Mode) (t : Tag) (f : Bool) (x : List ℕ) where
       ap (λ r. option_and_then (λ l. if_zero l.0 l.1) r) l ∙ end_refused x (read_length mode w) n
 
 -- two octets are both where the first tells the tag alone and the second a length below 128
-pub short_stands : (mode : Mode) (w x : List ℕ) (t : Tag) (f : Bool) (n : ℕ) → 2 ≤ length w → get_or w 0 0 % 32 < 31 → get_or w 1 0 < 128 → t ≡ record { class = class_of (get_or w 0 0); number = get_or w 0 0 % 32 } → f ≡ is_marked (get_or w 0 0) → n ≡ get_or w 1 0 → read_front mode (w ++ x) ≡ Some (record { tag = t; form = f; len = Definite n }, drop 2 (w ++ x))
+pub short_stands : (mode : Mode) (w x : List ℕ) (t : Tag) (f : Bool) (n : ℕ) → 2 ≤ length w → get_or w 0 0 % 32 < 31 → get_or w 1 0 < 128
+    → t ≡ record { class = class_of (get_or w 0 0); number = get_or w 0 0 % 32 } → f ≡ is_marked (get_or w 0 0) → n ≡ get_or w 1 0
+    → read_front mode (w ++ x) ≡ Some (record { tag = t; form = f; len = Definite n }, drop 2 (w ++ x))
 unfolding read_front read_identifier read_length
 short_stands mode [] x t f n two low short tag mark len = absurd (omega arith)
 short_stands mode (b ∷ []) x t f n two low short tag mark len = absurd (omega arith)
 short_stands mode (b ∷ l ∷ w) x t f n two low short tag mark len = rw (lt-ltb (b % 32) 31 low, lt-ltb l 128 short, tag, mark, len) refl
 
 -- or is 128
-pub indefinite_stands : (mode : Mode) (w x : List ℕ) (t : Tag) (f : Bool) → 2 ≤ length w → get_or w 0 0 % 32 < 31 → get_or w 1 0 ≡ 128 → t ≡ record { class = class_of (get_or w 0 0); number = get_or w 0 0 % 32 } → f ≡ is_marked (get_or w 0 0) → read_front mode (w ++ x) ≡ Some (record { tag = t; form = f; len = Indefinite }, drop 2 (w ++ x))
+pub indefinite_stands : (mode : Mode) (w x : List ℕ) (t : Tag) (f : Bool) → 2 ≤ length w → get_or w 0 0 % 32 < 31 → get_or w 1 0 ≡ 128
+    → t ≡ record { class = class_of (get_or w 0 0); number = get_or w 0 0 % 32 } → f ≡ is_marked (get_or w 0 0)
+    → read_front mode (w ++ x) ≡ Some (record { tag = t; form = f; len = Indefinite }, drop 2 (w ++ x))
 unfolding read_front read_identifier read_length
 indefinite_stands mode [] x t f two low same tag mark = absurd (omega arith)
 indefinite_stands mode (b ∷ []) x t f two low same tag mark = absurd (omega arith)
@@ -308,8 +329,10 @@ end_stands mode (b ∷ l ∷ w) x two low len = rw (low, len) refl
 
 -- ---- in the words of the standard
 
-pub identifier_stands : (w : List ℕ) (t : Tag) (f : Bool) (y : List ℕ) → HasIdentifier w t f y → (x : List ℕ) → w ++ x ≡ identifier t f ++ drop (length w - length y) (w ++ x)
-identifier_stands w t f y i x = ap (λ v. v ++ x) i.is ∙ append_assoc (identifier t f) y x ∙ ap (λ v. identifier t f ++ v) (sym (behind w (identifier t f) y x i.is))
+pub identifier_stands : (w : List ℕ) (t : Tag) (f : Bool) (y : List ℕ) → HasIdentifier w t f y → (x : List ℕ)
+    → w ++ x ≡ identifier t f ++ drop (length w - length y) (w ++ x)
+identifier_stands w t f y i x =
+    ap (λ v. v ++ x) i.is ∙ append_assoc (identifier t f) y x ∙ ap (λ v. identifier t f ++ v) (sym (behind w (identifier t f) y x i.is))
 
 pub begins_no_identifier : (w : List ℕ) → read_identifier w ≡ None → BeginsNoIdentifier w
 begins_no_identifier w e t f x fits is = some_is_none _ (sym (read_identifier-identifier t f x fits) ∙ ap read_identifier (sym is) ∙ e)

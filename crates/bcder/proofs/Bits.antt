@@ -1,5 +1,6 @@
 -- The bits of octets, and octets whose unused bits are set to zero.
-use Rattle.std.proofs.Common.{◌≡◌, ℕ, suc, zero, ◌-◌, ◌*◌, ◌/◌, ◌%◌, ◌^◌, ◌<◌, ◌≤◌, false, List, [], ◌∷◌, ◌++◌, length, get_or, refl, sym, subst, ap, ◌∙◌, arith}
+use Rattle.std.proofs.Common.{◌≡◌, ℕ, suc, zero, ◌-◌, ◌*◌, ◌/◌, ◌%◌, ◌^◌, ◌<◌, ◌≤◌, false, List, [], ◌∷◌}
+use Rattle.std.proofs.Common.{◌++◌, length, get_or, refl, sym, subst, ap, ◌∙◌, arith}
 use Rattle.std.proofs.lemmas.List.{get_or-take, length-take-le}
 use Rattle.std.proofs.lemmas.Nat.Bits.{bit_at-zero}
 use Rattle.std.specs.Prelude.{IsTrue, nat_eq}
@@ -65,7 +66,9 @@ cleared_length unused (b ∷ c ∷ w) = ap suc (cleared_length unused (c ∷ w))
 same_tail : (b : ℕ) (v w : List ℕ) → b ∷ v ≡ b ∷ w → v ≡ w
 same_tail b v w e = cc
 
-cleared_by_last : (unused b : ℕ) (w : List ℕ) → (AreCleared unused (b ∷ w) → get_or (b ∷ w) (length w) 0 / 2 ^ unused * 2 ^ unused ≡ get_or (b ∷ w) (length w) 0) × (get_or (b ∷ w) (length w) 0 / 2 ^ unused * 2 ^ unused ≡ get_or (b ∷ w) (length w) 0 → AreCleared unused (b ∷ w))
+cleared_by_last : (unused b : ℕ) (w : List ℕ)
+    → (AreCleared unused (b ∷ w) → get_or (b ∷ w) (length w) 0 / 2 ^ unused * 2 ^ unused ≡ get_or (b ∷ w) (length w) 0)
+    × (get_or (b ∷ w) (length w) 0 / 2 ^ unused * 2 ^ unused ≡ get_or (b ∷ w) (length w) 0 → AreCleared unused (b ∷ w))
 cleared_by_last unused b [] = (λ e. cc, λ e. ap (λ n. n ∷ []) e)
 cleared_by_last unused b (c ∷ w) =
     let (to, from) = cleared_by_last unused c w in
@@ -75,7 +78,8 @@ equal_or_not : (m n : ℕ) → (IsTrue (nat_eq m n) → m ≡ n) × (m ≡ n →
 equal_or_not m n = (λ h. grind (arith, nat_tests), λ h. grind (arith, nat_tests))
 
 -- octets are cleared where clearing leaves the last one
-pub cleared_told : (unused n : ℕ) (w : List ℕ) → 1 ≤ length w → n ≡ get_or w (length w - 1) 0 / 2 ^ unused * 2 ^ unused → (IsTrue (nat_eq n (get_or w (length w - 1) 0)) → AreCleared unused w) × (AreCleared unused w → IsTrue (nat_eq n (get_or w (length w - 1) 0)))
+pub cleared_told : (unused n : ℕ) (w : List ℕ) → 1 ≤ length w → n ≡ get_or w (length w - 1) 0 / 2 ^ unused * 2 ^ unused
+    → (IsTrue (nat_eq n (get_or w (length w - 1) 0)) → AreCleared unused w) × (AreCleared unused w → IsTrue (nat_eq n (get_or w (length w - 1) 0)))
 cleared_told unused n [] h e = absurd (omega arith)
 cleared_told unused n (b ∷ w) h e =
     let at : length (b ∷ w) - 1 ≡ length w = omega arith in

@@ -15,7 +15,7 @@ use Rattle.bcder.specs.calls.Skipping.{WereCalls, RefusesOne}
 use Rattle.bcder.specs.calls.Skipping as skipping
 use Rattle.bcder.proofs.Naming.{Alike, ends_alike, front_named}
 
--- the same content, behind a borrow of this name
+-- content c, behind a borrow of this name
 abbrev pub named : GName → Reading → Reading
 named n c = record { stream = c.stream; owed = c.owed; kind = c.kind; state = c.state; mode = c.mode; marked = c.marked; name = n }
 
@@ -72,13 +72,26 @@ module _ (n : GName) where
     refused_named : (x : E) → walking.RefusesWalk why c x d → walking.RefusesWalk why (named n c) x (named n d)
     refused_named x (walking.RefusesWalk.failed h o) = walking.RefusesWalk.failed h o
     refused_named x (walking.RefusesWalk.source h g) = walking.RefusesWalk.source h g
-    refused_named x (walking.RefusesWalk.nothing h v q o) = walking.RefusesWalk.nothing h (nothing_named c v) (open_named c q) (front_named (named n c) c (alike_named c) (why x) o)
+    refused_named x (walking.RefusesWalk.nothing h v q o) =
+        walking.RefusesWalk.nothing h (nothing_named c v) (open_named c q) (front_named (named n c) c (alike_named c) (why x) o)
 
     -- whatever is refused of the content behind the other borrow too
-    passed_named : {T : Type 0} (Refuses : Reading → E → Reading → Type 0) → ((x : E) → Refuses c x d → Refuses (named n c) x (named n d)) → (r : Result (Option T) E) → PassedBy Refuses c r d → PassedBy Refuses (named n c) r (named n d)
-    passed_named Refuses f (Ok None) p = record { value = tt; end = ends_named c d.stream.rest p.end; done = p.done; no_fault = p.no_fault; refused = tt; failed = tt; mode = p.mode; marked = p.marked }
-    passed_named Refuses f (Ok (Some x)) p = record { value = value_named c d p.value; end = tt; done = tt; no_fault = p.no_fault; refused = tt; failed = tt; mode = p.mode; marked = p.marked }
-    passed_named Refuses f (Err x) p = record { value = tt; end = tt; done = tt; no_fault = tt; refused = f x p.refused; failed = p.failed; mode = p.mode; marked = p.marked }
+    passed_named : {T : Type 0} (Refuses : Reading → E → Reading → Type 0) → ((x : E) → Refuses c x d → Refuses (named n c) x (named n d))
+        → (r : Result (Option T) E) → PassedBy Refuses c r d → PassedBy Refuses (named n c) r (named n d)
+    passed_named Refuses f (Ok None) p = record {
+      value = tt;
+      end = ends_named c d.stream.rest p.end;
+      done = p.done;
+      no_fault = p.no_fault;
+      refused = tt;
+      failed = tt;
+      mode = p.mode;
+      marked = p.marked;
+    }
+    passed_named Refuses f (Ok (Some x)) p =
+        record { value = value_named c d p.value; end = tt; done = tt; no_fault = p.no_fault; refused = tt; failed = tt; mode = p.mode; marked = p.marked }
+    passed_named Refuses f (Err x) p =
+        record { value = tt; end = tt; done = tt; no_fault = tt; refused = f x p.refused; failed = p.failed; mode = p.mode; marked = p.marked }
 
     calls_named : (calls : List Heading) → WereCalls c calls d → WereCalls (named n c) calls (named n d)
     calls_named calls w = record {
@@ -91,25 +104,34 @@ module _ (n : GName) where
 
     one_named : (y : E) → RefusesOne why c y d → RefusesOne why (named n c) y (named n d)
     one_named y (skipping.RefusesOne.by_walk r) = skipping.RefusesOne.by_walk (refused_named y r)
-    one_named y (skipping.RefusesOne.by_depth g j) = skipping.RefusesOne.by_depth (record { calls = g.calls; last = g.last; were = calls_named _ g.were; constructed = g.constructed; deep = g.deep }) j
+    one_named y (skipping.RefusesOne.by_depth g j) =
+        skipping.RefusesOne.by_depth (record { calls = g.calls; last = g.last; were = calls_named _ g.were; constructed = g.constructed; deep = g.deep }) j
 
-same_fields : (s s' : Stream) → s ≡ s' → (o o' : Option ℕ) → o ≡ o' → (k k' : ContentForm) → k ≡ k' → (t t' : State) → t ≡ t' → (m m' : Mode) → m ≡ m' → (b b' : Bool) → b ≡ b' → (n n' : GName) → n ≡ n' → ◌≡◌ {A = Reading} (record { stream = s; owed = o; kind = k; state = t; mode = m; marked = b; name = n }) (record { stream = s'; owed = o'; kind = k'; state = t'; mode = m'; marked = b'; name = n' })
+same_fields : (s s' : Stream) → s ≡ s' → (o o' : Option ℕ) → o ≡ o' → (k k' : ContentForm) → k ≡ k' → (t t' : State) → t ≡ t' → (m m' : Mode) → m ≡ m'
+    → (b b' : Bool) → b ≡ b' → (n n' : GName) → n ≡ n'
+    → ◌≡◌ {A = Reading} (record { stream = s; owed = o; kind = k; state = t; mode = m; marked = b; name = n })
+    (record { stream = s'; owed = o'; kind = k'; state = t'; mode = m'; marked = b'; name = n' })
 same_fields s s' es o o' eo k k' ek t t' et m m' em b b' eb n n' en = cc
 
 -- content e is what d is, which content c became by a step, behind a borrow of another name
-module _ (n : GName) (c d e : Reading) (s : d.stream ≡ e.stream) (o : d.owed ≡ e.owed) (k : c.kind ≡ e.kind) (t : d.state ≡ e.state) (m : c.mode ≡ e.mode) (b : c.marked ≡ e.marked) (l : n ≡ e.name) (mv : Moves c d) (md : d.mode ≡ c.mode) (mk : d.marked ≡ c.marked) where
+module _ (n : GName) (c d e : Reading) (s : d.stream ≡ e.stream) (o : d.owed ≡ e.owed) (k : c.kind ≡ e.kind) (t : d.state ≡ e.state) (m : c.mode ≡ e.mode)
+    (b : c.marked ≡ e.marked) (l : n ≡ e.name) (mv : Moves c d) (md : d.mode ≡ c.mode) (mk : d.marked ≡ c.marked) where
   moved_kind : d.kind ≡ c.kind
   unfolding Moves
   moved_kind = mv.kind
 
   is_named : named n d ≡ e
-  is_named = same_fields d.stream e.stream s d.owed e.owed o d.kind e.kind (moved_kind ∙ k) d.state e.state t d.mode e.mode (md ∙ m) d.marked e.marked (mk ∙ b) n e.name l
+  is_named = same_fields d.stream e.stream s d.owed e.owed o d.kind e.kind (moved_kind ∙ k) d.state e.state t d.mode e.mode
+      (md ∙ m) d.marked e.marked (mk ∙ b) n e.name l
 
   pub moves_behind : Moves (named n c) e
   moves_behind = subst (λ z. Moves (named n c) z) is_named (moves_named n c d mv)
 
-  pub passed_behind : {T E : Type 0} (why : E → Cause ContentError) (r : Result (Option T) E) → PassedBy (walking.RefusesWalk why) c r d → PassedBy (walking.RefusesWalk why) (named n c) r e
-  passed_behind why r p = subst (λ z. PassedBy (walking.RefusesWalk why) (named n c) r z) is_named (passed_named n why c d (walking.RefusesWalk why) (refused_named n why c d) r p)
+  pub passed_behind : {T E : Type 0} (why : E → Cause ContentError) (r : Result (Option T) E) → PassedBy (walking.RefusesWalk why) c r d
+      → PassedBy (walking.RefusesWalk why) (named n c) r e
+  passed_behind why r p =
+      subst (λ z. PassedBy (walking.RefusesWalk why) (named n c) r z) is_named (passed_named n why c d (walking.RefusesWalk why) (refused_named n why c d) r p)
 
-  pub skipped_behind : {T E : Type 0} (why : E → Cause ContentError) (r : Result (Option T) E) → PassedBy (RefusesOne why) c r d → PassedBy (RefusesOne why) (named n c) r e
+  pub skipped_behind : {T E : Type 0} (why : E → Cause ContentError) (r : Result (Option T) E) → PassedBy (RefusesOne why) c r d
+      → PassedBy (RefusesOne why) (named n c) r e
   skipped_behind why r p = subst (λ z. PassedBy (RefusesOne why) (named n c) r z) is_named (passed_named n why c d (RefusesOne why) (one_named n why c d) r p)

@@ -1,5 +1,6 @@
 -- What a capture of the next value, or of all values, holds.
-use Rattle.std.proofs.Common.{◌≡◌, ◌≢◌, ℕ, ◌<◌, ◌≤◌, ◌||◌, Bool, true, false, List, [], ◌∷◌, ◌++◌, length, Option, Some, None, refl, sym, ap, ◌∙◌, subst, append_assoc, append-nil, length-append, arith, inl, inr}
+use Rattle.std.proofs.Common.{◌≡◌, ◌≢◌, ℕ, ◌<◌, ◌≤◌, ◌||◌, Bool, true, false, List, [], ◌∷◌, ◌++◌, length, Option, Some, None, refl}
+use Rattle.std.proofs.Common.{sym, ap, ◌∙◌, subst, append_assoc, append-nil, length-append, arith, inl, inr}
 use Rattle.std.specs.Prelude.{Result, Ok, Err, IsOkAnd, IsErrAnd, IsOk, IfOk, IfErr, IsSomeAnd, IsTrue, is_none}
 use Rattle.std.specs.Borrow.{MutBor}
 use Rattle.std.proofs.lemmas.List.{append_cancel_right}
@@ -16,8 +17,11 @@ use Rattle.bcder.specs.x690.Grammar.{IsOnly}
 use Rattle.bcder.specs.calls.Stream.{Grew}
 use Rattle.bcder.specs.calls.Captured.{Kept, AreWhole}
 use Rattle.bcder.specs.calls.Capturing.{IsCaptureOf, Captures, RefusesCapture, RefusesLeft, by_content, by_source, by_memory}
-use Rattle.bcder.specs.calls.CapturingValues.{RefusesWhere, failed, source, nothing, memory, WantsMemory, CapturesBy, PassesBy, LeadDeep, BeginsDeep, HasValueOrDeep, of_value, of_depth, HasValuesOrDeep, MetDeep, CapturesValue, HasNoValue, HasNoNext, CapturesNext, AnswersCapture, CapturesValues, HasOthers, PassesToEnd}
-use Rattle.bcder.specs.calls.Content.{Reading, ContentForm, octets, values, Octets, IndefiniteValues, label, Closes, Moves, Whole, Falls, HasMarker, EndsBefore, EndsAt, NotAtEnd, IsDone, IsUsedUp, any, RefusesHeader}
+use Rattle.bcder.specs.calls.CapturingValues.{RefusesWhere, failed, source, nothing, memory, WantsMemory, CapturesBy, PassesBy, LeadDeep, BeginsDeep}
+use Rattle.bcder.specs.calls.CapturingValues.{HasValueOrDeep, of_value, of_depth, HasValuesOrDeep, MetDeep, CapturesValue, HasNoValue, HasNoNext}
+use Rattle.bcder.specs.calls.CapturingValues.{CapturesNext, AnswersCapture, CapturesValues, HasOthers, PassesToEnd}
+use Rattle.bcder.specs.calls.Content.{Reading, ContentForm, octets, values, Octets, IndefiniteValues, label, Closes, Moves, Whole, Falls}
+use Rattle.bcder.specs.calls.Content.{HasMarker, EndsBefore, EndsAt, NotAtEnd, IsDone, IsUsedUp, any, RefusesHeader}
 use Rattle.bcder.specs.calls.Calls.{Answered}
 use Rattle.bcder.specs.calls.Decoding.{by_closure, left_failed}
 use Rattle.bcder.specs.calls.Walking.{HasValue, PassesValue, ClosesBefore, HasValues, Walks}
@@ -66,14 +70,16 @@ module _ (c i : Reading) (h : IsCaptureOf c i) where
     after = v.after;
     encode = subst (λ m. AreEncodings m v.trees v.all) h.mode v.encode;
     rest = sym h.rest ∙ v.rest;
-    closes = subst (λ o. ClosesBefore c.kind c.mode o v.all v.after) h.owed (subst (λ m. ClosesBefore c.kind m i.owed v.all v.after) h.mode (subst (λ k. ClosesBefore k i.mode i.owed v.all v.after) h.kind v.closes));
+    closes = subst (λ o. ClosesBefore c.kind c.mode o v.all v.after) h.owed
+        (subst (λ m. ClosesBefore c.kind m i.owed v.all v.after) h.mode (subst (λ k. ClosesBefore k i.mode i.owed v.all v.after) h.kind v.closes));
   }
 
   pub others_of : HasOthers i → HasOthers c
   others_of n = record { usable = sym h.state ∙ n.usable; none = λ v. n.none (values_of v) }
 
 -- what is refused of the content inside is refused of that around it
-where_of : {X : Type 0} (P Q D E : Type 0) → (P → Q) → (D → E) → (c i j d : Reading) (e : DecodeError X) → Alike c i → i.stream.faults ≡ c.stream.faults → d.stream.faults ≡ j.stream.faults → RefusesWhere P D i e j → RefusesWhere Q E c e d
+where_of : {X : Type 0} (P Q D E : Type 0) → (P → Q) → (D → E) → (c i j d : Reading) (e : DecodeError X) → Alike c i → i.stream.faults ≡ c.stream.faults
+    → d.stream.faults ≡ j.stream.faults → RefusesWhere P D i e j → RefusesWhere Q E c e d
 where_of P Q D E f g c i j d e s a b (failed x o) = failed (sym s.state ∙ x) o
 where_of P Q D E f g c i j d e s a b (source k y) = source k (rw (← a, b) y)
 where_of P Q D E f g c i j d e s a b (nothing n o) = nothing (f n) (front_named c i s (cause_of e) o)
@@ -88,12 +94,16 @@ or_false : (a : Bool) → (a || false) ≡ a
 or_false true = refl
 or_false false = refl
 
-module _ {C X : Type 0} (view : C → Reading) (post : MutBor C → Result (Unit {0}) (DecodeError X) → MutBor C → Type 0) (Q : Reading → Reading → Type 0) (HasNone IsDeep HasSome : Reading → Type 0)
+module _ {C X : Type 0} (view : C → Reading) (post : MutBor C → Result (Unit {0}) (DecodeError X) → MutBor C → Type 0) (Q : Reading → Reading → Type 0)
+    (HasNone IsDeep HasSome : Reading → Type 0)
     (law : (p : MutBor C) (r : Result (Unit {0}) (DecodeError X)) (q : MutBor C) → post p r q → PassesBy Q HasNone IsDeep (view p.now) r (view q.now))
     (around : (c i : Reading) → IsCaptureOf c i → HasNone i → HasNone c) (usable : (i j : Reading) → Q i j → j.state ≢ Failed)
-    (deep_around : (c i : Reading) → IsCaptureOf c i → IsDeep i → HasSome c) (some_around : (c i j : Reading) → IsCaptureOf c i → Moves i j → Q i j → length j.stream.rest < length i.stream.rest → HasSome c) where
-  did : (i j : Reading) (r : Result (Unit {0}) (DecodeError X)) → Answered {R = Result (Unit {0}) (DecodeError X)} view post i r j → PassesBy Q HasNone IsDeep i r j
-  did i j r a = subst (λ z. PassesBy Q HasNone IsDeep i r z) a.left_is (subst (λ z. PassesBy Q HasNone IsDeep z r (view a.left.now)) a.handed_is (law a.handed r a.left a.called))
+    (deep_around : (c i : Reading) → IsCaptureOf c i → IsDeep i → HasSome c)
+    (some_around : (c i j : Reading) → IsCaptureOf c i → Moves i j → Q i j → length j.stream.rest < length i.stream.rest → HasSome c) where
+  did : (i j : Reading) (r : Result (Unit {0}) (DecodeError X)) → Answered {R = Result (Unit {0}) (DecodeError X)} view post i r j
+      → PassesBy Q HasNone IsDeep i r j
+  did i j r a = subst (λ z. PassesBy Q HasNone IsDeep i r z) a.left_is
+      (subst (λ z. PassesBy Q HasNone IsDeep z r (view a.left.now)) a.handed_is (law a.handed r a.left a.called))
 
   left_mark : (i j : Reading) (e : DecodeError X) (n : ℕ) → RefusesLeft view post i e j n → j.marked ≡ i.marked
   left_mark i j e n (by_content (by_closure a) f) = (did i j (Err e) a).marked
@@ -101,8 +111,10 @@ module _ {C X : Type 0} (view : C → Reading) (post : MutBor C → Result (Unit
   left_mark i j e n (by_source a u k g) = (did i j (Ok tt) a).marked
   left_mark i j e n (by_memory a u k s f) = (did i j (Ok tt) a).marked
 
-  refused_left : (c i j d : Reading) (e : DecodeError X) → IsCaptureOf c i → Moves i j → RefusesLeft view post i e j d.stream.faults → RefusesWhere (HasNone c) (HasSome c) c e d
-  refused_left c i j d e h v (by_content (by_closure a) f) = where_of _ _ _ _ (around c i h) (deep_around c i h) c i j d e (capture_alike c i h) h.faults f (did i j (Err e) a).refused
+  refused_left : (c i j d : Reading) (e : DecodeError X) → IsCaptureOf c i → Moves i j → RefusesLeft view post i e j d.stream.faults
+      → RefusesWhere (HasNone c) (HasSome c) c e d
+  refused_left c i j d e h v (by_content (by_closure a) f) =
+      where_of _ _ _ _ (around c i h) (deep_around c i h) c i j d e (capture_alike c i h) h.faults f (did i j (Err e) a).refused
   refused_left c i j d e h v (by_content (left_failed x a s o) f) = absurd (usable i j (did i j (Ok x) a).passed s)
   refused_left c i j d e h v (by_source a u k g) = source k (subst (λ z. Grew z d.stream.faults) ((did i j (Ok tt) a).no_fault ∙ h.faults) g)
   refused_left c i j d e h v (by_memory a u k s f) = memory k (some_around c i j h v (did i j (Ok tt) a).passed s)
@@ -110,8 +122,10 @@ module _ {C X : Type 0} (view : C → Reading) (post : MutBor C → Result (Unit
   mark_of : (c d i j : Reading) → i.marked ≡ false → j.marked ≡ i.marked → d.marked ≡ (c.marked || j.marked) → d.marked ≡ c.marked
   mark_of c d i j f s m = m ∙ ap (λ z. c.marked || z) (s ∙ f) ∙ or_false c.marked
 
-  module _ (P : Reading → Kept → Reading → Type 0) (c d : Reading) (holds : (k : Kept) (h : Captures view post c k d) → Q h.handed h.left → h.left.marked ≡ false → P c k d) where
-    pub captures_by : (r : Result Kept (DecodeError X)) → IfOk r (λ k. Captures view post c k d) → IfErr r (λ e. RefusesCapture view post c e d) → d.mode ≡ c.mode → CapturesBy P HasNone HasSome c r d
+  module _ (P : Reading → Kept → Reading → Type 0) (c d : Reading)
+      (holds : (k : Kept) (h : Captures view post c k d) → Q h.handed h.left → h.left.marked ≡ false → P c k d) where
+    pub captures_by : (r : Result Kept (DecodeError X)) → IfOk r (λ k. Captures view post c k d) → IfErr r (λ e. RefusesCapture view post c e d)
+        → d.mode ≡ c.mode → CapturesBy P HasNone HasSome c r d
     captures_by (Ok k) h n m =
         let s = did h.handed h.left (Ok tt) h.answered in
         record {
@@ -143,7 +157,8 @@ only_at m n t v w x y a b c h = subst (λ z. IsOnly n t w z) c (subst (λ z. IsO
 pub value_usable : (i j : Reading) → PassesValue i j → j.state ≢ Failed
 value_usable i j h = open_not_failed j.state h.stays
 
-pub holds_value : {C X : Type 0} (view : C → Reading) (post : MutBor C → Result (Unit {0}) (DecodeError X) → MutBor C → Type 0) (c d : Reading) (k : Kept) (h : Captures view post c k d) → PassesValue h.handed h.left → h.left.marked ≡ false → CapturesValue c k d
+pub holds_value : {C X : Type 0} (view : C → Reading) (post : MutBor C → Result (Unit {0}) (DecodeError X) → MutBor C → Type 0) (c d : Reading) (k : Kept)
+    (h : Captures view post c k d) → PassesValue h.handed h.left → h.left.marked ≡ false → CapturesValue c k d
 holds_value view post c d k h v f =
     let o : d.state ≡ Open = h.state ∙ v.stays in
     let z : h.holds.close ≡ [] = closed_by_none k.mode c d h.holds.close o h.holds.closes in
@@ -151,7 +166,11 @@ holds_value view post c d k h v f =
     let e : v.value ≡ k.octets = append_cancel_right v.value k.octets d.stream.rest (ap (λ y. v.value ++ y) h.rest ∙ sym v.has.rest ∙ h.hands.rest ∙ r) in
     record {
       tree = v.tree;
-      has = record { usable = sym h.hands.state ∙ v.has.usable; encodes = subst (λ y. IsEncoding c.mode v.tree y) e (subst (λ y. IsEncoding y v.tree v.value) h.hands.mode v.has.encodes); rest = r };
+      has = record {
+        usable = sym h.hands.state ∙ v.has.usable;
+        encodes = subst (λ y. IsEncoding c.mode v.tree y) e (subst (λ y. IsEncoding y v.tree v.value) h.hands.mode v.has.encodes);
+        rest = r;
+      };
       only = only_at h.handed.mode c.mode v.tree v.value k.octets h.handed.stream.rest c.stream.rest h.hands.mode e h.hands.rest v.only;
       mode = h.mode ∙ ap (λ z. label c.mode z) f;
       start = h.start;
@@ -159,7 +178,8 @@ holds_value view post c d k h v f =
     }
 
 -- where it stands in front it is captured, unless the source failed or memory was wanted
-pub exactly_one : {X : Type 0} (c d : Reading) (r : Result Kept (DecodeError X)) → CapturesBy CapturesValue HasNoValue HasValueOrDeep c r d → (Grew c.stream.faults d.stream.faults → ⊥) → (WantsMemory r → ⊥) → (t : Tree) (w after : List ℕ) → HasValue c t w after → IsOkAnd r (λ k. k.octets ≡ w)
+pub exactly_one : {X : Type 0} (c d : Reading) (r : Result Kept (DecodeError X)) → CapturesBy CapturesValue HasNoValue HasValueOrDeep c r d
+    → (Grew c.stream.faults d.stream.faults → ⊥) → (WantsMemory r → ⊥) → (t : Tree) (w after : List ℕ) → HasValue c t w after → IsOkAnd r (λ k. k.octets ≡ w)
 exactly_one c d (Ok k) h g m t w after v = (let s = value_once c h.captured.tree t k.octets w d.stream.rest after h.captured.has v in s.front)
 exactly_one c d (Err e) h g m t w after v = absurd (refuted h.refused)
   where
@@ -171,7 +191,7 @@ exactly_one c d (Err e) h g m t w after v = absurd (refuted h.refused)
 
 -- ---- the next value, if there is one
 
--- the same content, failed
+-- content c, failed
 abbrev pub as_failed : Reading → Reading
 as_failed c = record { stream = c.stream; owed = c.owed; kind = c.kind; state = Failed; mode = c.mode; marked = c.marked; name = c.name }
 
@@ -188,7 +208,8 @@ module _ (c i : Reading) (g : GoesOn c i) where
 
   some_first : HasValueOrDeep i → HasValueOrDeep c
   some_first (of_value t w after v) = of_value t w after (value_first t w after v)
-  some_first (of_depth b) = of_depth (record { usable = g.usable; some = g.some; leads = subst (λ m. LeadDeep m c.stream.rest) g.same.mode (subst (LeadDeep i.mode) g.same.rest b.leads) })
+  some_first (of_depth b) = of_depth
+      (record { usable = g.usable; some = g.some; leads = subst (λ m. LeadDeep m c.stream.rest) g.same.mode (subst (LeadDeep i.mode) g.same.rest b.leads) })
 
   captured_first : (k : Kept) (d : Reading) → CapturesValue i k d → CapturesValue c k d
   captured_first k d h = record {
@@ -228,7 +249,9 @@ module _ (c i : Reading) (g : GoesOn c i) where
       }
 
       pub failed_moves : Moves d (as_failed d)
-      failed_moves = looked_failed d d (record { rest = refl; kept = refl; owed = refl; kind = refl; state = refl; mode = refl; marked = refl; name = refl }) (let z : d.stream.faults ≤ d.stream.faults = omega arith in z) (as_failed d) (h.as_before.state ∙ g.same.state ∙ g.usable) refl refl refl refl refl refl refl
+      failed_moves = looked_failed d d (record { rest = refl; kept = refl; owed = refl; kind = refl; state = refl; mode = refl; marked = refl; name = refl })
+          (let z : d.stream.faults ≤ d.stream.faults = omega arith in z) (as_failed d)
+          (h.as_before.state ∙ g.same.state ∙ g.usable) refl refl refl refl refl refl refl
 
 pub next_ended : {X : Type 0} (c d : Reading) → HasNone any c d → d.mode ≡ c.mode → CapturesNext {X = X} c (Ok None) d
 next_ended c d n m = record {
@@ -243,7 +266,8 @@ next_ended c d n m = record {
 }
 
 -- no header comes next
-pub next_stopped : {S X : Type 0} (why : S → Cause ContentError) (s : S) (e : DecodeError X) (c d : Reading) → Within c → cause_of e ≡ why s → RefusesHeader why any c s d → d.state ≡ Failed → d.mode ≡ c.mode → d.marked ≡ c.marked → CapturesNext {X = X} c (Err e) d
+pub next_stopped : {S X : Type 0} (why : S → Cause ContentError) (s : S) (e : DecodeError X) (c d : Reading) → Within c → cause_of e ≡ why s
+    → RefusesHeader why any c s d → d.state ≡ Failed → d.mode ≡ c.mode → d.marked ≡ c.marked → CapturesNext {X = X} c (Err e) d
 next_stopped why s e c d w k h f m a = record {
   captured = tt;
   end = tt;
@@ -258,14 +282,16 @@ next_stopped why s e c d w k h f m a = record {
     walked : walking.RefusesWalk cause_of c e d → RefusesWhere (HasNoNext c) (HasValueOrDeep c) c e d
     walked (walking.RefusesWalk.failed x o) = failed x o
     walked (walking.RefusesWalk.source x y) = source x y
-    walked (walking.RefusesWalk.nothing x n y o) = nothing (record { usable = x; some = y; none = record { none = λ t v after z. n.none t v after z.encodes z.rest } }) o
+    walked (walking.RefusesWalk.nothing x n y o) =
+        nothing (record { usable = x; some = y; none = record { none = λ t v after z. n.none t v after z.encodes z.rest } }) o
 
 -- a value that comes next is captured, unless the source failed or memory was wanted, and the end is found
 module _ {X : Type 0} (c d : Reading) (w : Within c) where
   pub exactly_next : (r : Result (Option Kept) (DecodeError X)) → CapturesNext c r d → (Grew c.stream.faults d.stream.faults → ⊥) → AnswersCapture c r
   exactly_next r h g = record { found = found r h; ended = ended r h }
     where
-      found : (r : Result (Option Kept) (DecodeError X)) → CapturesNext c r d → (t : Tree) (v after : List ℕ) → HasValue c t v after → (WantsMemory r → ⊥) → IsOkAnd r (λ o. IsSomeAnd o (λ k. k.octets ≡ v))
+      found : (r : Result (Option Kept) (DecodeError X)) → CapturesNext c r d → (t : Tree) (v after : List ℕ) → HasValue c t v after → (WantsMemory r → ⊥)
+          → IsOkAnd r (λ o. IsSomeAnd o (λ k. k.octets ≡ v))
       found (Ok (Some k)) h t v after z m = (let s = value_once c h.captured.tree t k.octets v d.stream.rest after h.captured.has z in s.front)
       found (Ok None) h t v after z m = absurd ((value_not_at_end c w t v after z).none d.stream.rest h.end)
       found (Err e) h t v after z m = absurd (refuted h.refused)
@@ -304,12 +330,17 @@ both_empty (b ∷ v) w e = absurd (let l = ap length e in omega arith)
 -- content is at its end where it was passed to it
 done_of : (c i : Reading) → c.state ≡ i.state → c.kind ≡ i.kind → c.owed ≡ i.owed → c.stream.rest ≡ i.stream.rest → IsDone i → IsDone c
 done_of c i s k o r (inl e) = inl (s ∙ e)
-done_of c i s k o r (inr e) = inr (s ∙ e.0, subst (λ z. IsUsedUp z c.owed c.stream.rest) (sym k) (subst (λ z. IsUsedUp i.kind z c.stream.rest) (sym o) (subst (λ z. IsUsedUp i.kind i.owed z) (sym r) e.1)))
+done_of c i s k o r (inr e) = inr (
+  s ∙ e.0,
+  subst (λ z. IsUsedUp z c.owed c.stream.rest) (sym k)
+      (subst (λ z. IsUsedUp i.kind z c.stream.rest) (sym o) (subst (λ z. IsUsedUp i.kind i.owed z) (sym r) e.1)),
+)
 
 pub end_usable : (i j : Reading) → PassesToEnd i j → j.state ≢ Failed
 end_usable i j h e = elim h.done [ inl x ↦ (let y : Ended ≡ Failed = sym x ∙ e in cc) | inr x ↦ (let y : Open ≡ Failed = sym x.0 ∙ e in cc) ]
 
-module _ {C X : Type 0} (view : C → Reading) (post : MutBor C → Result (Unit {0}) (DecodeError X) → MutBor C → Type 0) (c d : Reading) (k : Kept) (h : Captures view post c k d) (form : c.kind ≢ Octets) (m : Moves c d) (q : PassesToEnd h.handed h.left) (f : h.left.marked ≡ false) where
+module _ {C X : Type 0} (view : C → Reading) (post : MutBor C → Result (Unit {0}) (DecodeError X) → MutBor C → Type 0) (c d : Reading) (k : Kept)
+    (h : Captures view post c k d) (form : c.kind ≢ Octets) (m : Moves c d) (q : PassesToEnd h.handed h.left) (f : h.left.marked ≡ false) where
   same_mode : k.mode ≡ c.mode
   same_mode = h.mode ∙ ap (λ z. label c.mode z) f
 
@@ -321,7 +352,8 @@ module _ {C X : Type 0} (view : C → Reading) (post : MutBor C → Result (Unit
   is_done = done_of d h.left h.state same_kind h.owed h.rest q.done
 
   all_passed : (p : List ℕ) → c.stream.rest ≡ p ++ d.stream.rest → p ≡ k.octets ++ h.holds.close
-  all_passed p e = append_cancel_right p (k.octets ++ h.holds.close) d.stream.rest (sym e ∙ h.holds.rest ∙ sym (append_assoc k.octets h.holds.close d.stream.rest))
+  all_passed p e = append_cancel_right p (k.octets ++ h.holds.close) d.stream.rest
+      (sym e ∙ h.holds.rest ∙ sym (append_assoc k.octets h.holds.close d.stream.rest))
 
   fell : Falls c.owed (length (k.octets ++ h.holds.close)) d.owed
   unfolding Moves
@@ -337,7 +369,8 @@ module _ {C X : Type 0} (view : C → Reading) (post : MutBor C → Result (Unit
   ended_by o e = elim (m.ends e) [ inl x ↦ absurd (open_not_ended c.state o x) | inr x ↦ x ]
 
   marked_by : c.state ≡ Open → d.state ≡ Ended → HasMarker c.mode (h.holds.close ++ d.stream.rest) d.stream.rest
-  marked_by o e = elim h.holds.closes [ inl x ↦ absurd (open_not_ended c.state o (sym x.1 ∙ e)) | inr x ↦ record { marker = h.holds.close; is_end = rw (← same_mode) x.0; rest = refl } ]
+  marked_by o e = elim h.holds.closes
+      [ inl x ↦ absurd (open_not_ended c.state o (sym x.1 ∙ e)) | inr x ↦ record { marker = h.holds.close; is_end = rw (← same_mode) x.0; rest = refl } ]
 
   used_up : (g : ContentForm) → d.kind ≡ g → g ≢ IndefiniteValues → c.state ≡ Open → c.kind ≡ g → (d.state ≡ Open) × IsUsedUp g d.owed d.stream.rest
   used_up g e n o ck = elim is_done [ inl x ↦ absurd (n (sym ck ∙ ended_by o x)) | inr x ↦ (x.0, subst (λ z. IsUsedUp z d.owed d.stream.rest) e x.1) ]
@@ -354,8 +387,10 @@ module _ {C X : Type 0} (view : C → Reading) (post : MutBor C → Result (Unit
   closes_before (values kind.Definite) e o =
       let u = used_up (values kind.Definite) (of_kind e) (λ z. cc) o e in
       let w : Falls c.owed (length (k.octets ++ h.holds.close)) (Some 0) = subst (λ z. Falls c.owed (length (k.octets ++ h.holds.close)) z) u.1 fell in
-      falls_to_none c.owed (length (k.octets ++ h.holds.close)) w ∙ ap (λ z. Some (length z)) (ap (λ z. k.octets ++ z) (unmarked_close u.0) ∙ append-nil k.octets)
-  closes_before (values kind.Indefinite) e o = elim is_done [ inl x ↦ (d.stream.rest, marked_by o x) | inr x ↦ absurd (subst (λ z. IsUsedUp z d.owed d.stream.rest) (of_kind e) x.1) ]
+      falls_to_none c.owed (length (k.octets ++ h.holds.close)) w
+      ∙ ap (λ z. Some (length z)) (ap (λ z. k.octets ++ z) (unmarked_close u.0) ∙ append-nil k.octets)
+  closes_before (values kind.Indefinite) e o =
+      elim is_done [ inl x ↦ (d.stream.rest, marked_by o x) | inr x ↦ absurd (subst (λ z. IsUsedUp z d.owed d.stream.rest) (of_kind e) x.1) ]
   closes_before (values kind.Unbounded) e o =
       let u = used_up (values kind.Unbounded) (of_kind e) (λ z. cc) o e in
       ap (λ z. z ++ d.stream.rest) (unmarked_close u.0) ∙ u.1
@@ -374,7 +409,8 @@ module _ {C X : Type 0} (view : C → Reading) (post : MutBor C → Result (Unit
   }
 
 -- they are captured where the rest up to the end is encodings, unless the source failed or memory was wanted
-pub exactly_all : {X : Type 0} (c d : Reading) (r : Result Kept (DecodeError X)) → CapturesBy CapturesValues HasOthers HasValuesOrDeep c r d → (Grew c.stream.faults d.stream.faults → ⊥) → (WantsMemory r → ⊥) → (HasValues c → c.state ≡ Open → IsOk r) × (c.state ≡ Ended → IsOk r)
+pub exactly_all : {X : Type 0} (c d : Reading) (r : Result Kept (DecodeError X)) → CapturesBy CapturesValues HasOthers HasValuesOrDeep c r d
+    → (Grew c.stream.faults d.stream.faults → ⊥) → (WantsMemory r → ⊥) → (HasValues c → c.state ≡ Open → IsOk r) × (c.state ≡ Ended → IsOk r)
 exactly_all c d (Ok k) h g m = (λ v o. refl, λ e. refl)
 exactly_all c d (Err e) h g m = (λ v o. absurd (refuted v o h.refused), λ s. absurd (not_ended s h.refused))
   where
@@ -409,7 +445,8 @@ begins_deep c d g = record { usable = (deep_usable c d g).0; some = (deep_usable
 pub one_refused : {X : Type 0} (c d : Reading) (e : DecodeError X) → RefusesOne cause_of c e d → RefusesWhere (HasNoValue c) (BeginsDeep c) c e d
 one_refused c d e (skipping.RefusesOne.by_walk (walking.RefusesWalk.failed s a)) = failed s a
 one_refused c d e (skipping.RefusesOne.by_walk (walking.RefusesWalk.source s f)) = source s f
-one_refused c d e (skipping.RefusesOne.by_walk (walking.RefusesWalk.nothing s n f a)) = nothing (record { none = λ t w after v. n.none t w after v.encodes v.rest }) a
+one_refused c d e (skipping.RefusesOne.by_walk (walking.RefusesWalk.nothing s n f a)) =
+    nothing (record { none = λ t w after v. n.none t w after v.encodes v.rest }) a
 one_refused c d e (skipping.RefusesOne.by_depth g m) = memory m (begins_deep c d g)
 
 leads_of : (c i : Reading) → IsCaptureOf c i → LeadDeep i.mode i.stream.rest → LeadDeep c.mode c.stream.rest
@@ -448,14 +485,16 @@ pub done_passes_none : (i j : Reading) → Moves i j → IsDone i → length j.s
 unfolding Moves
 done_passes_none i j m d l = elim d [
   | inl e ↦ (let z : length m.passed ≡ 0 = ap length ((m.ended e).1) in omega (arith, z, l, ap length m.rest, length-append m.passed j.stream.rest))
-  | inr u ↦ (let z = none_passed i.kind i.owed j.owed i.stream.rest m.passed j.stream.rest u.1 m.rest m.owed in omega (arith, z.0, l, ap length m.rest, length-append m.passed j.stream.rest))
+  | inr u ↦ (let z = none_passed i.kind i.owed j.owed i.stream.rest m.passed j.stream.rest u.1 m.rest m.owed in
+      omega (arith, z.0, l, ap length m.rest, length-append m.passed j.stream.rest))
 ]
 
 done_stays : (i j : Reading) → Moves i j → j.state ≡ Open → IsDone i → IsDone j
 unfolding Moves
 done_stays i j m o d = elim d [
   | inl e ↦ inl ((m.ended e).0)
-  | inr u ↦ inr (o, subst (λ f. IsUsedUp f j.owed j.stream.rest) (sym m.kind) (none_passed i.kind i.owed j.owed i.stream.rest m.passed j.stream.rest u.1 m.rest m.owed).1)
+  | inr u ↦ inr
+      (o, subst (λ f. IsUsedUp f j.owed j.stream.rest) (sym m.kind) (none_passed i.kind i.owed j.owed i.stream.rest m.passed j.stream.rest u.1 m.rest m.owed).1)
 ]
 
 -- content that is passed on, and hasn't failed then, was open
@@ -504,27 +543,34 @@ all_deep c i h b =
         front = w.values;
         behind = j.stream.rest;
         encode = subst (λ z. AreEncodings z w.trees w.values) m w.encodes;
-        is = sym h.rest ∙ b.walks.moves.rest ∙ ap (λ z. z ++ j.stream.rest) (w.split ∙ ap (λ z. w.values ++ z) (closed_by_none _ i j w.close u.0 w.closes) ∙ append-nil w.values);
+        is = sym h.rest ∙ b.walks.moves.rest
+            ∙ ap (λ z. z ++ j.stream.rest) (w.split ∙ ap (λ z. w.values ++ z) (closed_by_none _ i j w.close u.0 w.closes) ∙ append-nil w.values);
         leads = subst (λ z. LeadDeep z j.stream.rest) (b.walks.mode ∙ h.mode) (leads_deep j b.left b.deep);
       });
     }
 
-others_left : {X : Type 0} (e : DecodeError X) (i k : Reading) → i.kind ≢ Octets → i.state ≡ Open → walking.RefusesValues cause_of i e k → RefusesWhere (HasOthers i) (MetDeep i) i e k
+others_left : {X : Type 0} (e : DecodeError X) (i k : Reading) → i.kind ≢ Octets → i.state ≡ Open → walking.RefusesValues cause_of i e k
+    → RefusesWhere (HasOthers i) (MetDeep i) i e k
 others_left e i k form o (walking.RefusesValues.failed f a) = failed f a
 others_left e i k form o (walking.RefusesValues.source s f) = source s f
 others_left e i k form o (walking.RefusesValues.broken x n a) = nothing (record { usable = o; none = n }) a
 others_left e i k form o (walking.RefusesValues.short x n a) = absurd (form x)
 
-loop_refused : {X : Type 0} (e : DecodeError X) (i j k : Reading) → i.kind ≢ Octets → Walks i j → walking.RefusesWalk cause_of j e k → RefusesWhere (HasOthers i) (MetDeep i) i e k
+loop_refused : {X : Type 0} (e : DecodeError X) (i j k : Reading) → i.kind ≢ Octets → Walks i j → walking.RefusesWalk cause_of j e k
+    → RefusesWhere (HasOthers i) (MetDeep i) i e k
 loop_refused e i j k form w (walking.RefusesWalk.failed f a) = failed (w.failed f) a
 loop_refused e i j k form w (walking.RefusesWalk.source s f) = source s (grew_from _ _ _ (moves_faults i j w.moves) f)
-loop_refused e i j k form w (walking.RefusesWalk.nothing s n f a) = others_left e i k form (still_open i j w s) (walks_refused cause_of e i j k form w (walking.RefusesWalk.nothing s n f a))
+loop_refused e i j k form w (walking.RefusesWalk.nothing s n f a) =
+    others_left e i k form (still_open i j w s) (walks_refused cause_of e i j k form w (walking.RefusesWalk.nothing s n f a))
 
-pub loop_refused_one : {X : Type 0} (e : DecodeError X) (i j k : Reading) → i.kind ≢ Octets → Walks i j → RefusesOne cause_of j e k → RefusesWhere (HasOthers i) (MetDeep i) i e k
+pub loop_refused_one : {X : Type 0} (e : DecodeError X) (i j k : Reading) → i.kind ≢ Octets → Walks i j → RefusesOne cause_of j e k
+    → RefusesWhere (HasOthers i) (MetDeep i) i e k
 loop_refused_one e i j k form w (skipping.RefusesOne.by_walk r) = loop_refused e i j k form w r
 loop_refused_one e i j k form w (skipping.RefusesOne.by_depth g m) = memory m (record { form = form; at = j; left = k; walks = w; deep = g })
 
 -- the loop answers the error that it met
-pub pass_refused : {T X : Type 0} (c d : Reading) (r : Result T (DecodeError X)) (e : DecodeError X) → IsErrAnd r (λ x. x ≡ e) → RefusesWhere (HasOthers c) (MetDeep c) c e d → d.marked ≡ c.marked → PassesBy PassesToEnd HasOthers MetDeep c r d
+pub pass_refused : {T X : Type 0} (c d : Reading) (r : Result T (DecodeError X)) (e : DecodeError X) → IsErrAnd r (λ x. x ≡ e)
+    → RefusesWhere (HasOthers c) (MetDeep c) c e d → d.marked ≡ c.marked → PassesBy PassesToEnd HasOthers MetDeep c r d
 pass_refused c d (Ok x) e h a g = absurd h
-pass_refused c d (Err x) e h a g = record { passed = tt; no_fault = tt; refused = subst (λ y. RefusesWhere (HasOthers c) (MetDeep c) c y d) (sym h) a; marked = g }
+pass_refused c d (Err x) e h a g =
+    record { passed = tt; no_fault = tt; refused = subst (λ y. RefusesWhere (HasOthers c) (MetDeep c) c y d) (sym h) a; marked = g }

@@ -1,5 +1,6 @@
 -- What octets spell is told by the octets.
-use Rattle.std.proofs.Common.{◌≡◌, ◌≤◌, ℕ, zero, suc, List, [], ◌∷◌, ◌++◌, length, ◌&&◌, true, Option, Some, None, refl, ap, sym, ◌∙◌, arith, length-append, append-nil, subst, encode_utf8, encode_utf8_all, Bor}
+use Rattle.std.proofs.Common.{◌≡◌, ◌≤◌, ℕ, zero, suc, List, [], ◌∷◌, ◌++◌, length, ◌&&◌, true, Option, Some, None, refl, ap, sym}
+use Rattle.std.proofs.Common.{◌∙◌, arith, length-append, append-nil, subst, encode_utf8, encode_utf8_all, Bor}
 use Rattle.std.specs.Prelude.{Result, Ok, Err, IfSome, MatchOption}
 use Rattle.std.proofs.lemmas.List.{nil_from_length}
 use Rattle.std.proofs.lemmas.Str.{encodes-append, encodes-chars, chars-nil, chars-encodes, chars_past_char}
@@ -54,7 +55,8 @@ module _ (step : Step) (lawful : IsStep step) where
       let same = one_front w (record { char = d; rest = s.0 }) x s.1 e in
       (ap (λ z. z.char) same, subst (λ z. Spells step z.rest cs) same s.2)
 
-  spelled_behind : (w r : List ℕ) (c : ℕ) (cs : List ℕ) → step w ≡ Some (record { char = c; rest = r }) → Spells step w cs → (ds : List ℕ) × (cs ≡ c ∷ ds) × Spells step r ds
+  spelled_behind : (w r : List ℕ) (c : ℕ) (cs : List ℕ) → step w ≡ Some (record { char = c; rest = r }) → Spells step w cs
+      → (ds : List ℕ) × (cs ≡ c ∷ ds) × Spells step r ds
   spelled_behind w r c [] e s = absurd (no_front _ (ap step (sym s) ∙ e))
   spelled_behind w r c (d ∷ cs) e s = (let h = spelled_after w _ d cs e s in (cs, ap (λ z. z ∷ cs) h.0, h.1))
 
@@ -82,7 +84,8 @@ module _ (step : Step) (lawful : IsStep step) where
   accepts_next w r (Ok (Some c)) n a = accepts_behind w r c n a
   accepts_next w r (Err e) n a = absurd (n.0 (none_behind w n.1 a))
 
-  pub yields_next : (w r : List ℕ) (o : Option ℕ) → NextChar step w (Ok o) r → IsOfSet step w → YieldsFirst (λ (cs : List ℕ). cs) (characters step w) o (characters step r)
+  pub yields_next : (w r : List ℕ) (o : Option ℕ) → NextChar step w (Ok o) r → IsOfSet step w
+      → YieldsFirst (λ (cs : List ℕ). cs) (characters step w) o (characters step r)
   yields_next w r None n a = (characters_spelled w [] n.0, characters_spelled r [] n.1)
   yields_next w r (Some c) n a = characters_behind w r c n a
 
@@ -98,14 +101,16 @@ module _ (step : Step) (lawful : IsStep step) where
       let scalars = are_scalars s.0 cs s.2 in
       λ i. scalar i && scalars i
 
-  pub spells_left : (w : List ℕ) (text : Option (Bor (List ℕ))) → IsOfSet step w → IfSome text (λ t. t.now ≡ encode_utf8_all (characters step w)) → Spells step w (characters_left step text w)
+  pub spells_left : (w : List ℕ) (text : Option (Bor (List ℕ))) → IsOfSet step w → IfSome text (λ t. t.now ≡ encode_utf8_all (characters step w))
+      → Spells step w (characters_left step text w)
   spells_left w None a e = spells_characters w a
   spells_left w (Some t) a e =
       let own = ap chars e ∙ chars-encodes (characters step w) (are_scalars w (characters step w) (spells_characters w a)) in
       subst (Spells step w) (sym own) (spells_characters w a)
 
 -- a text's next character, or its end
-yields_chars : {C : Type 0} (rest : C → List ℕ) (s t : C) (o : Option ℕ) → IsUtf8 (rest s) → MatchOption o ((length (rest s) ≡ 0) × (t ≡ s)) (λ c. rest s ≡ encode_utf8 c ++ rest t) → YieldsFirst (λ (cs : List ℕ). cs) (chars (rest s)) o (chars (rest t))
+yields_chars : {C : Type 0} (rest : C → List ℕ) (s t : C) (o : Option ℕ) → IsUtf8 (rest s) → MatchOption o ((length (rest s) ≡ 0) × (t ≡ s))
+    (λ c. rest s ≡ encode_utf8 c ++ rest t) → YieldsFirst (λ (cs : List ℕ). cs) (chars (rest s)) o (chars (rest t))
 yields_chars rest s t (Some c) is e = chars_past_char (rest s) (rest t) c is e
 yields_chars rest s t None is e =
     let none : chars (rest s) ≡ [] = ap chars (nil_from_length (rest s) e.0) ∙ chars-nil in
@@ -113,15 +118,19 @@ yields_chars rest s t None is e =
 
 module _ (step : Step) where
   -- of a text that is at hand
-  pub yields_text : {C : Type 0} (rest : C → List ℕ) (s t : C) (text : Option (Bor (List ℕ))) (b : Bor (List ℕ)) (v w u : List ℕ) (o : Option ℕ) → ◌≡◌ {A = Option (Bor (List ℕ))} text (Some b) → IfSome text (λ x. IsUtf8 x.now) → characters_left step text w ≡ v → rest s ≡ b.now → u ≡ rest t → MatchOption o ((length (rest s) ≡ 0) × (t ≡ s)) (λ c. rest s ≡ encode_utf8 c ++ rest t) → YieldsFirst (λ (cs : List ℕ). cs) v o (chars u)
+  pub yields_text : {C : Type 0} (rest : C → List ℕ) (s t : C) (text : Option (Bor (List ℕ))) (b : Bor (List ℕ)) (v w u : List ℕ) (o : Option ℕ)
+      → ◌≡◌ {A = Option (Bor (List ℕ))} text (Some b) → IfSome text (λ x. IsUtf8 x.now) → characters_left step text w ≡ v → rest s ≡ b.now → u ≡ rest t
+      → MatchOption o ((length (rest s) ≡ 0) × (t ≡ s)) (λ c. rest s ≡ encode_utf8 c ++ rest t) → YieldsFirst (λ (cs : List ℕ). cs) v o (chars u)
   yields_text rest s t text b v w u o some is left begins ends e =
       let utf8 : IsUtf8 b.now = subst (λ (x : Option (Bor (List ℕ))). IfSome x (λ y. IsUtf8 y.now)) some is in
       let all : chars (rest s) ≡ v = ap chars begins ∙ ap (λ (x : Option (Bor (List ℕ))). characters_left step x w) (sym some) ∙ left in
       let y = yields_chars rest s t o (subst IsUtf8 (sym begins) utf8) e in
-      subst (λ cs. YieldsFirst (λ (cs : List ℕ). cs) cs o (chars u)) all (subst (λ x. YieldsFirst (λ (cs : List ℕ). cs) (chars (rest s)) o (chars x)) (sym ends) y)
+      subst (λ cs. YieldsFirst (λ (cs : List ℕ). cs) cs o (chars u)) all
+      (subst (λ x. YieldsFirst (λ (cs : List ℕ). cs) (chars (rest s)) o (chars x)) (sym ends) y)
 
   -- of octets
-  pub yields_octets : (text : Option (Bor (List ℕ))) (v w r : List ℕ) (o : Option ℕ) → ◌≡◌ {A = Option (Bor (List ℕ))} text None → characters_left step text w ≡ v → YieldsFirst (λ (cs : List ℕ). cs) (characters step w) o (characters step r) → YieldsFirst (λ (cs : List ℕ). cs) v o (characters_left step text r)
+  pub yields_octets : (text : Option (Bor (List ℕ))) (v w r : List ℕ) (o : Option ℕ) → ◌≡◌ {A = Option (Bor (List ℕ))} text None → characters_left step text w
+      ≡ v → YieldsFirst (λ (cs : List ℕ). cs) (characters step w) o (characters step r) → YieldsFirst (λ (cs : List ℕ). cs) v o (characters_left step text r)
   yields_octets None v w r o none left y = subst (λ cs. YieldsFirst (λ (cs : List ℕ). cs) cs o (characters step r)) left y
   yields_octets (Some t) v w r o none left y = (let x : ◌≡◌ {A = Option (Bor (List ℕ))} (Some t) None = none in cc)
 
@@ -137,12 +146,14 @@ module _ (step : Step) (lawful : IsStep step) (texts : AreTexts step) where
       sym (encodes-chars w t.0) ∙ ap encode_utf8_all (t.1 ∙ sym (characters_spelled step lawful w a.0 a.1))
 
   -- lent as they are, they are their characters' text
-  pub text_lent : (w : List ℕ) (o : Option (Bor (List ℕ))) → IsOfSet step w → IfSome o (λ t. t.now ≡ w) → IfSome o (λ t. t.now ≡ encode_utf8_all (characters step w))
+  pub text_lent : (w : List ℕ) (o : Option (Bor (List ℕ))) → IsOfSet step w → IfSome o (λ t. t.now ≡ w)
+      → IfSome o (λ t. t.now ≡ encode_utf8_all (characters step w))
   text_lent w None a e = tt
   text_lent w (Some t) a e = e ∙ shown_as w a
 
 -- a call that gave the first of what was left
-pub goes_on : {can : List ℕ → Type 0} → ((cs : List ℕ) → can cs) → (v u : List ℕ) (o : Option ℕ) → YieldsFirst (λ (cs : List ℕ). cs) v o u → MakesProgress can (item_count (λ cs. cs)) v o u
+pub goes_on : {can : List ℕ → Type 0} → ((cs : List ℕ) → can cs) → (v u : List ℕ) (o : Option ℕ) → YieldsFirst (λ (cs : List ℕ). cs) v o u
+    → MakesProgress can (item_count (λ cs. cs)) v o u
 goes_on can v u None y = record { on = λ f. tt; keeps = tt; rests = λ f. tt }
 goes_on can v u (Some c) y = (let l = ap length y in record { on = λ f. (can u, tt, omega (arith, l)); keeps = can u; rests = λ f. tt })
 

@@ -1,5 +1,6 @@
 -- Setting unused bits to zero changes no bit, and brings bit strings of the same bits to the same octets.
-use Rattle.std.proofs.Common.{◌≡◌, ◌==◌, ℕ, suc, zero, ◌+◌, ◌-◌, ◌*◌, ◌/◌, ◌%◌, ◌^◌, ◌<◌, ◌≤◌, true, false, List, [], ◌∷◌, length, get_or, refl, sym, ap, ◌∙◌, arith, inl, inr}
+use Rattle.std.proofs.Common.{◌≡◌, ◌==◌, ℕ, suc, zero, ◌+◌, ◌-◌, ◌*◌, ◌/◌, ◌%◌, ◌^◌, ◌<◌, ◌≤◌, true, false, List}
+use Rattle.std.proofs.Common.{[], ◌∷◌, length, get_or, refl, sym, ap, ◌∙◌, arith, inl, inr}
 use Rattle.std.proofs.lemmas.List.{same_lists, get_or_default}
 use Rattle.std.proofs.lemmas.Nat.{shr_split, mod_below, pow_pos}
 use Rattle.std.proofs.lemmas.Nat.Bits.{bit_at_cat_high, bit_at_cat_low, bit_at-zero, bit_at-lt, same_from_bits_below}
@@ -37,7 +38,8 @@ cleared_at_end unused (b ∷ []) (suc j) h = absurd (omega arith)
 cleared_at_end unused (b ∷ c ∷ w) zero h = absurd (omega arith)
 cleared_at_end unused (b ∷ c ∷ w) (suc j) h = cleared_at_end unused (c ∷ w) j (omega arith)
 
-same_bit : (unused : ℕ) (w : List ℕ) (i : ℕ) → i < 8 * length w - unused → is_one (get_or (cleared unused w) (i / 8) 0) (7 - i % 8) ≡ is_one (get_or w (i / 8) 0) (7 - i % 8)
+same_bit : (unused : ℕ) (w : List ℕ) (i : ℕ) → i < 8 * length w - unused
+    → is_one (get_or (cleared unused w) (i / 8) 0) (7 - i % 8) ≡ is_one (get_or w (i / 8) 0) (7 - i % 8)
 same_bit unused w i h = elim (cases_lt (suc (i / 8)) (length w)) [
   | inl a ↦ ap (λ b. is_one b (7 - i % 8)) (cleared_before unused w (i / 8) a)
   | inr a ↦ (
@@ -54,7 +56,8 @@ same_bits x =
     let m : length (bits x) ≡ 8 * length x.octets - x.unused = bits_length x in
     same_lists (bits y) (bits x) (n ∙ sym m) (λ k d h. (
     let g : k < length (bits x) = omega (arith, n, m) in
-    get_or_default (bits y) k d false h ∙ bit_is y k h ∙ same_bit x.unused x.octets k (omega (arith, m)) ∙ sym (bit_is x k g) ∙ get_or_default (bits x) k false d g))
+    get_or_default (bits y) k d false h ∙ bit_is y k h ∙ same_bit x.unused x.octets k (omega (arith, m)) ∙ sym (bit_is x k g)
+    ∙ get_or_default (bits x) k false d g))
 
 -- ---- bit strings of the same bits
 
@@ -94,17 +97,21 @@ module _ (x y : Bits) (p : IsBits x) (q : IsBits y) (same : bits x ≡ bits y) w
   same_size : (length x.octets ≡ length y.octets) × (x.unused ≡ y.unused)
   same_size = sizes (length x.octets) (length y.octets) x.unused y.unused p.few q.few (no_unused x p) (no_unused y q) same_count
 
-  bit_same : (k i : ℕ) → i < 8 → 8 * k + (7 - i) < 8 * length x.octets - x.unused → bit_at (get_or (cleared x.unused x.octets) k 0) i ≡ bit_at (get_or (cleared y.unused y.octets) k 0) i
+  bit_same : (k i : ℕ) → i < 8 → 8 * k + (7 - i) < 8 * length x.octets - x.unused
+      → bit_at (get_or (cleared x.unused x.octets) k 0) i ≡ bit_at (get_or (cleared y.unused y.octets) k 0) i
   bit_same k i h g =
       let j : ℕ = 8 * k + (7 - i) in
       let c = same_count in
       let at : j / 8 ≡ k = omega arith in
       let bit : 7 - j % 8 ≡ i = omega arith in
-      let one : (get_or (bits x) j false) ≡ is_one (get_or (cleared x.unused x.octets) k 0) i = bit_is x j (omega (arith, bits_length x)) ∙ sym (same_bit x.unused x.octets j g) ∙ rw (at, bit) refl in
-      let other : (get_or (bits y) j false) ≡ is_one (get_or (cleared y.unused y.octets) k 0) i = bit_is y j (omega (arith, bits_length y)) ∙ sym (same_bit y.unused y.octets j (omega arith)) ∙ rw (at, bit) refl in
+      let one : (get_or (bits x) j false) ≡ is_one (get_or (cleared x.unused x.octets) k 0) i =
+      bit_is x j (omega (arith, bits_length x)) ∙ sym (same_bit x.unused x.octets j g) ∙ rw (at, bit) refl in
+      let other : (get_or (bits y) j false) ≡ is_one (get_or (cleared y.unused y.octets) k 0) i =
+      bit_is y j (omega (arith, bits_length y)) ∙ sym (same_bit y.unused y.octets j (omega arith)) ∙ rw (at, bit) refl in
       one_or_zero _ _ (bit_at-lt _ i) (bit_at-lt _ i) (sym one ∙ ap (λ z. get_or z j false) same ∙ other)
 
-  bit_unused : (k i : ℕ) → i < 8 → k < length x.octets → 8 * length x.octets - x.unused ≤ 8 * k + (7 - i) → bit_at (get_or (cleared x.unused x.octets) k 0) i ≡ bit_at (get_or (cleared y.unused y.octets) k 0) i
+  bit_unused : (k i : ℕ) → i < 8 → k < length x.octets → 8 * length x.octets - x.unused ≤ 8 * k + (7 - i)
+      → bit_at (get_or (cleared x.unused x.octets) k 0) i ≡ bit_at (get_or (cleared y.unused y.octets) k 0) i
   bit_unused k i h g f =
       let (n, u) = same_size in
       let a = p.few in
@@ -116,14 +123,17 @@ module _ (x y : Bits) (p : IsBits x) (q : IsBits y) (same : bits x ≡ bits y) w
 
   module _ (o : (i : ℕ) → get_or x.octets i 0 < 256) (s : (i : ℕ) → get_or y.octets i 0 < 256) where
     octet_same : (k : ℕ) → k < length x.octets → get_or (cleared x.unused x.octets) k 0 ≡ get_or (cleared y.unused y.octets) k 0
-    octet_same k h = same_from_bits_below 8 _ _ (below x.unused x.octets o k) (below y.unused y.octets s k) (λ i g. elim (cases_lt (8 * k + (7 - i)) (8 * length x.octets - x.unused)) [
-      | inl a ↦ bit_same k i g a
-      | inr a ↦ bit_unused k i g h a
-    ])
+    octet_same k h = same_from_bits_below 8 _ _ (below x.unused x.octets o k) (below y.unused y.octets s k)
+        (λ i g. elim (cases_lt (8 * k + (7 - i)) (8 * length x.octets - x.unused)) [
+          | inl a ↦ bit_same k i g a
+          | inr a ↦ bit_unused k i g h a
+        ])
 
     -- they have the same octets, once the unused bits are zero
-    pub same_cleared : ◌≡◌ {A = Bits} (record { unused = x.unused; octets = cleared x.unused x.octets }) (record { unused = y.unused; octets = cleared y.unused y.octets })
+    pub same_cleared : ◌≡◌ {A = Bits} (record { unused = x.unused; octets = cleared x.unused x.octets })
+        (record { unused = y.unused; octets = cleared y.unused y.octets })
     same_cleared =
         let (n, u) = same_size in
-        let octets : cleared x.unused x.octets ≡ cleared y.unused y.octets = same_number_lists _ _ (cleared_length x.unused x.octets ∙ n ∙ sym (cleared_length y.unused y.octets)) (λ k h. octet_same k (omega (arith, cleared_length x.unused x.octets))) in
+        let octets : cleared x.unused x.octets ≡ cleared y.unused y.octets = same_number_lists _ _ (cleared_length x.unused x.octets ∙ n
+        ∙ sym (cleared_length y.unused y.octets)) (λ k h. octet_same k (omega (arith, cleared_length x.unused x.octets))) in
         cc

@@ -55,7 +55,8 @@ other_fronts a b x y l e = fronts_first a b x y l ∙ told_other (slice_cmp nat_
 
 -- ---- a turn: two rows, of which one and other stand in one part each, and x and y behind them
 
-module _ (one other a r b s x y : List ℕ) (all : Ordering) (one_is : one ≡ a ++ r) (other_is : other ≡ b ++ s) (long : length a ≡ length b) (left : slice_cmp nat_cmp (one ++ x) (other ++ y) ≡ all) where
+module _ (one other a r b s x y : List ℕ) (all : Ordering) (one_is : one ≡ a ++ r) (other_is : other ≡ b ++ s) (long : length a ≡ length b)
+    (left : slice_cmp nat_cmp (one ++ x) (other ++ y) ≡ all) where
   split : slice_cmp nat_cmp (a ++ (r ++ x)) (b ++ (s ++ y)) ≡ all
   split =
       ap (λ z. slice_cmp nat_cmp z (b ++ (s ++ y))) (sym (append_assoc a r x) ∙ ap (λ z. z ++ x) (sym one_is))
@@ -73,7 +74,8 @@ module _ (one other a r b s x y : List ℕ) (all : Ordering) (one_is : one ≡ a
       ap (λ z. slice_cmp nat_cmp z q) p_is ∙ ap (λ z. slice_cmp nat_cmp (r ++ x) z) q_is ∙ sym (equal_fronts a b (r ++ x) (s ++ y) long f) ∙ split
 
 -- where one side is at its end, the other is greater, unless it is at its end too
-pub ends_told : (one other x y : List ℕ) → (one ≡ [] → x ≡ []) → (other ≡ [] → y ≡ []) → min (length one) (length other) ≡ 0 → slice_cmp nat_cmp (one ++ x) (other ++ y) ≡ nat_cmp (length one) (length other)
+pub ends_told : (one other x y : List ℕ) → (one ≡ [] → x ≡ []) → (other ≡ [] → y ≡ []) → min (length one) (length other) ≡ 0
+    → slice_cmp nat_cmp (one ++ x) (other ++ y) ≡ nat_cmp (length one) (length other)
 ends_told [] [] x y p q h = let e = p refl in let f = q refl in rw (e, f) refl
 ends_told [] (d ∷ b) x y p q h = let e = p refl in rw e (nat_cmp_is 0 (length (d ∷ b)) Less (omega arith))
 ends_told (c ∷ a) [] x y p q h = let f = q refl in rw f (nat_cmp_is (length (c ∷ a)) 0 Greater (omega arith))

@@ -14,7 +14,8 @@ use Rattle.bcder.specs.laws.Integers.{some_integer}
 exactly_read : {T : Type 0} (w : List ℕ) (reads : List ℕ → T → Type 0) (x : T) → reads w x → ((y : T) → reads w y → y ≡ x) → IsReadBack (Exactly w) reads x
 exactly_read w reads x r o = record { contents = w; written = refl; only = λ v p. let same : v ≡ w = cc in same; read = r; no_other = o }
 
-pub octets_read : {T : Type 0} (w : List ℕ) (reads : List ℕ → T → Type 0) (x : T) → AreOctets w → reads w x → ((y : T) → reads w y → y ≡ x) → IsReadBack (ExactlyOctets w) reads x
+pub octets_read : {T : Type 0} (w : List ℕ) (reads : List ℕ → T → Type 0) (x : T) → AreOctets w → reads w x → ((y : T) → reads w y → y ≡ x)
+    → IsReadBack (ExactlyOctets w) reads x
 octets_read w reads x a r o = record { contents = w; written = (refl, a); only = λ v p. let e = p.0 in let same : v ≡ w = cc in same; read = r; no_other = o }
 
 is_integer : (z : ℤ) → AreInteger z (integer_octets z)
@@ -36,7 +37,8 @@ pub signed_read : (w : Width) (x : ℤ) → FitsSigned w x → IsReadBack (Exact
 signed_read w x h = exactly_read (integer_octets x) (IsSigned w) x (record { integer = is_integer x; fits = h }) (λ y p. one_number x y p.integer)
 
 pub unsigned_read : (bits n : ℕ) → FitsUnsignedBits bits (pos n) → IsReadBack (Exactly (integer_octets (pos n))) (IsUnsigned bits) n
-unsigned_read bits n h = exactly_read (integer_octets (pos n)) (IsUnsigned bits) n (record { integer = is_integer (pos n); fits = h }) (λ m p. one_natural n m p.integer)
+unsigned_read bits n h =
+    exactly_read (integer_octets (pos n)) (IsUnsigned bits) n (record { integer = is_integer (pos n); fits = h }) (λ m p. one_natural n m p.integer)
 
 truth_of : (mode : Mode) (b : Bool) → IsTruth mode (truth_octets b) b
 truth_of Ber true = refl

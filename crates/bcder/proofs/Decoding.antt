@@ -34,7 +34,8 @@ pub still_unlimited : (s s' : Stream) (m : Mode) (i j : Reading) (o o' : Option 
 still_unlimited s s' m i j o o' n r = sym r.left_owed ∙ moves_unlimited i j r.moves (r.owed ∙ n)
 
 -- what a closure left of content over a source without a limit is over what is left of the source
-pub hands_all : (s s' : Stream) (m : Mode) (i j : Reading) (o o' : Option ℕ) → o ≡ None → RunsOver (limited o s) o UnboundedValues m i j (limited o' s') o' → HandsAll s m i j s'
+pub hands_all : (s s' : Stream) (m : Mode) (i j : Reading) (o o' : Option ℕ) → o ≡ None
+    → RunsOver (limited o s) o UnboundedValues m i j (limited o' s') o' → HandsAll s m i j s'
 hands_all s s' m i j o o' n r =
     let n' : o' ≡ None = still_unlimited s s' m i j o o' n r in
     record {
@@ -43,21 +44,25 @@ hands_all s s' m i j o o' n r =
       moves = r.moves;
     }
 
-module _ {C T E : Type 0} (why : E → Cause ContentError) (view : C → Reading) (post : MutBor C → Result T E → MutBor C → Type 0) (s s' : Stream) (m : Mode) (o o' : Option ℕ) (n : o ≡ None) where
+module _ {C T E : Type 0} (why : E → Cause ContentError) (view : C → Reading) (post : MutBor C → Result T E → MutBor C → Type 0) (s s' : Stream) (m : Mode)
+    (o o' : Option ℕ) (n : o ≡ None) where
   pub decoded : (r : Result T E) → RanOn why view post (limited o s) o m r (limited o' s') o' → IfOk r (λ x. Decodes view post s m x s')
-  decoded (Ok x) h = record { handed = h.handed; left = h.left; hands = hands_all s s' m h.handed h.left o o' n h.runs; answered = h.answers; usable = h.usable }
+  decoded (Ok x) h =
+      record { handed = h.handed; left = h.left; hands = hands_all s s' m h.handed h.left o o' n h.runs; answered = h.answers; usable = h.usable }
   decoded (Err e) h = tt
 
   pub not_decoded : (r : Result T E) → RanOn why view post (limited o s) o m r (limited o' s') o' → IfErr r (λ e. RefusesDecode why view post s m e s')
   not_decoded (Ok x) h = tt
   not_decoded (Err e) h = record { handed = h.handed; left = h.left; hands = hands_all s s' m h.handed h.left o o' n h.runs; refuses = h.refuses }
 
-  -- the same, whatever is left of a source that was handed over
-  pub decoded_once : (t : Stream) → s ≡ t → (r : Result T E) → RanOn why view post (limited o s) o m r (limited o' s') o' → IfOk r (λ x. (left : Stream) × Decodes view post t m x left)
+  -- a source that was handed over was decoded, whatever is left of it
+  pub decoded_once : (t : Stream) → s ≡ t → (r : Result T E) → RanOn why view post (limited o s) o m r (limited o' s') o'
+      → IfOk r (λ x. (left : Stream) × Decodes view post t m x left)
   decoded_once t e (Ok x) h = (s', subst (λ y. Decodes view post y m x s') e (decoded (Ok x) h))
   decoded_once t e (Err x) h = tt
 
-  pub not_decoded_once : (t : Stream) → s ≡ t → (r : Result T E) → RanOn why view post (limited o s) o m r (limited o' s') o' → IfErr r (λ x. (left : Stream) × RefusesDecode why view post t m x left)
+  pub not_decoded_once : (t : Stream) → s ≡ t → (r : Result T E) → RanOn why view post (limited o s) o m r (limited o' s') o'
+      → IfErr r (λ x. (left : Stream) × RefusesDecode why view post t m x left)
   not_decoded_once t e (Ok x) h = tt
   not_decoded_once t e (Err x) h = (s', subst (λ y. RefusesDecode why view post y m x s') e (not_decoded (Err x) h))
 
@@ -65,7 +70,8 @@ module _ (s s' : Stream) (m : Mode) (i j : Reading) (h : HandsAll s m i j s') wh
   pub left_kept : s'.kept ≡ s.kept
   unfolding Moves
   left_kept =
-      let k : (limited None s').kept ≡ (limited None s).kept = ap (λ (x : Stream). x.kept) (sym h.leaves) ∙ h.moves.kept ∙ ap (λ (x : Stream). x.kept) h.over.stream in
+      let k : (limited None s').kept ≡ (limited None s).kept =
+      ap (λ (x : Stream). x.kept) (sym h.leaves) ∙ h.moves.kept ∙ ap (λ (x : Stream). x.kept) h.over.stream in
       rest_kept k
 
   pub left_passed : (passed : List ℕ) × (s.rest ≡ passed ++ s'.rest)
@@ -124,7 +130,7 @@ module _ {C T X : Type 0} (view : C → Reading) (post : MutBor C → Result T (
   pub not_decoded_at_all : (w : DecodeError X) → RanOn cause_of view post (limited o s) o m (Err w) (limited o' s') o' → RefusesWhole view post t m w
   not_decoded_at_all w h = by_decoding s' (subst (λ y. RefusesDecode cause_of view post y m w s') e (not_decoded cause_of view post s s' m o o' n (Err w) h))
 
--- the same refusal of a source that is known by another name
+-- a refusal over a stream and in a mode that equal these
 pub refuses_same : {C T X : Type 0} (view : C → Reading) (post : MutBor C → Result T (DecodeError X) → MutBor C → Type 0) (s t : Stream) (m n : Mode) → s ≡ t
     → m ≡ n → (r : Result T (DecodeError X)) → IfErr r (λ e. RefusesWhole view post s m e) → IfErr r (λ e. RefusesWhole view post t n e)
 refuses_same view post s t m n e f r h = subst (λ x. IfErr r (λ e. RefusesWhole view post x n e)) e

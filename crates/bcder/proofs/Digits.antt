@@ -25,19 +25,32 @@ last_digit n w b e d = number-append 0 w (b ∷ []) ∙ omega arith
 
 -- the digits of a number, from those before its last one
 pub digits_one : (old new : List ℕ) (n : ℕ) → 0 < n → n < 128 → new ≡ old ++ (128 + n % 128) ∷ [] → AppendsDigits old new n
-digits_one old new n p l e = ((128 + n % 128) ∷ [], record { marked = (omega arith, omega arith, tt); some = omega arith; value = omega arith; fewest = λ z. omega arith }, e)
+digits_one old new n p l e =
+    ((128 + n % 128) ∷ [], record { marked = (omega arith, omega arith, tt); some = omega arith; value = omega arith; fewest = λ z. omega arith }, e)
 
 pub digits_more : (old mid new : List ℕ) (n : ℕ) → 128 ≤ n → AppendsDigits old mid (n / 128) → new ≡ mid ++ (128 + n % 128) ∷ [] → AppendsDigits old new n
 digits_more old mid new n l (w, d, m) e =
     let b = 128 + n % 128 in
-    let s : get_or (w ++ b ∷ []) 0 0 ≡ get_or w 0 0 = first-append w (b ∷ []) d.some in
-    (w ++ b ∷ [], record { marked = marked-push w b d.marked (omega arith) (omega arith); some = omega (arith, length-append w (b ∷ [])); value = last_digit n w b d.value (omega arith); fewest = λ z. d.fewest (sym s ∙ z) }, e ∙ ap (λ u. u ++ b ∷ []) m ∙ append_assoc old w (b ∷ []))
+    let s : get_or (w ++ b ∷ []) 0 0 ≡ get_or w 0 0 = first-append w (b ∷ []) d.some in (
+      w ++ b ∷ [],
+      record {
+        marked = marked-push w b d.marked (omega arith) (omega arith);
+        some = omega (arith, length-append w (b ∷ []));
+        value = last_digit n w b d.value (omega arith);
+        fewest = λ z. d.fewest (sym s ∙ z);
+      },
+      e ∙ ap (λ u. u ++ b ∷ []) m ∙ append_assoc old w (b ∷ []),
+    )
 
 pub subidentifier_one : (old new : List ℕ) (n : ℕ) → n < 128 → new ≡ old ++ (n % 128) ∷ [] → AppendsSubidentifier old new n
 subidentifier_one old new n l e = ((n % 128) ∷ [], record { whole = omega arith; value = omega arith; fewest = λ z. omega arith }, e)
 
-pub subidentifier_more : (old mid new : List ℕ) (n : ℕ) → 128 ≤ n → AppendsDigits old mid (n / 128) → new ≡ mid ++ (n % 128) ∷ [] → AppendsSubidentifier old new n
+pub subidentifier_more : (old mid new : List ℕ) (n : ℕ) → 128 ≤ n → AppendsDigits old mid (n / 128) → new ≡ mid ++ (n % 128) ∷ []
+    → AppendsSubidentifier old new n
 subidentifier_more old mid new n l (w, d, m) e =
     let b = n % 128 in
-    let s : get_or (w ++ b ∷ []) 0 0 ≡ get_or w 0 0 = first-append w (b ∷ []) d.some in
-    (w ++ b ∷ [], record { whole = whole-push w b d.marked (omega arith); value = last_digit n w b d.value (omega arith); fewest = λ z. d.fewest (sym s ∙ z) }, e ∙ ap (λ u. u ++ b ∷ []) m ∙ append_assoc old w (b ∷ []))
+    let s : get_or (w ++ b ∷ []) 0 0 ≡ get_or w 0 0 = first-append w (b ∷ []) d.some in (
+      w ++ b ∷ [],
+      record { whole = whole-push w b d.marked (omega arith); value = last_digit n w b d.value (omega arith); fewest = λ z. d.fewest (sym s ∙ z) },
+      e ∙ ap (λ u. u ++ b ∷ []) m ∙ append_assoc old w (b ∷ []),
+    )

@@ -1,5 +1,6 @@
 -- The meaning of a value, from what is inside.
-use Rattle.std.proofs.Common.{◌≡◌, ◌≢◌, ℕ, ◌+◌, ◌<◌, ◌^◌, List, [], ◌∷◌, ◌++◌, Bool, true, false, length, nat_lt, Ok, Err, refl, ap, ◌∙◌, inl, inr, length-append, if◌then◌else◌}
+use Rattle.std.proofs.Common.{◌≡◌, ◌≢◌, ℕ, ◌+◌, ◌<◌, ◌^◌, List, [], ◌∷◌, ◌++◌, Bool, true, false, length, nat_lt, Ok}
+use Rattle.std.proofs.Common.{Err, refl, ap, ◌∙◌, inl, inr, length-append, if◌then◌else◌}
 use Rattle.std.proofs.lemmas.Bool.{cases_lt, lt-ltb, le-ltb, ltb-true}
 use Rattle.bcder.specs.declared.mode.Mode.{Mode}
 use Rattle.bcder.specs.declared.mode.Mode.TheVariants.{Ber, Cer, Der}
@@ -8,21 +9,25 @@ use Rattle.bcder.specs.declared.length.Length.{Length}
 use Rattle.bcder.specs.declared.length.Length.TheVariants.{Definite}
 use Rattle.bcder.specs.x690.Identifier.{Tag, identifier, IsValueTag}
 use Rattle.bcder.specs.x690.Octets.{definite_length, length_octets, fits_length, header, definite, constructed_length, closing, enclosed, enclosed_size}
-use Rattle.bcder.specs.calls.Meaning.{Encoded, Meaning, ContentsMeaning, ValueMeans, primitive_encoded, primitive_meaning, constructed_encoded, constructed_meaning, fits_enclosed, enclosed_refusal}
+use Rattle.bcder.specs.calls.Meaning.{Encoded, Meaning, ContentsMeaning, ValueMeans, primitive_encoded, primitive_meaning}
+use Rattle.bcder.specs.calls.Meaning.{constructed_encoded, constructed_meaning, fits_enclosed, enclosed_refusal}
 use Rattle.bcder.proofs.Writing.{append_not_nil}
 
-pub primitive_given : (t : Tag) (M : ContentsMeaning → Type 0) (c : List ℕ) → M (Ok c) → length c < 2 ^ 32 → IsValueTag t → ValueMeans t (primitive_meaning t) M (Ok (primitive_encoded t c))
+pub primitive_given : (t : Tag) (M : ContentsMeaning → Type 0) (c : List ℕ) → M (Ok c) → length c < 2 ^ 32 → IsValueTag t
+    → ValueMeans t (primitive_meaning t) M (Ok (primitive_encoded t c))
 primitive_given t M c m fits v =
     let test : nat_lt (length c) (2 ^ 32) ≡ true = lt-ltb _ _ fits in
     inr (v, (Ok c, m, rw test refl))
 
-pub constructed_given : (t : Tag) (mode : Mode) (M : Meaning → Type 0) (x : Encoded) → M (Ok x) → fits_enclosed mode t (length x.octets) ≡ true → IsValueTag t → ValueMeans t (constructed_meaning t mode) M (Ok (constructed_encoded mode t x))
+pub constructed_given : (t : Tag) (mode : Mode) (M : Meaning → Type 0) (x : Encoded) → M (Ok x) → fits_enclosed mode t (length x.octets) ≡ true → IsValueTag t
+    → ValueMeans t (constructed_meaning t mode) M (Ok (constructed_encoded mode t x))
 constructed_given t mode M x m fits v = inr (v, (Ok x, m, rw fits refl))
 
 pub header-length : (t : Tag) (f : Bool) (len : Length) → length (header t f len) ≡ length (identifier t f) + length (length_octets len)
 header-length t f len = length-append (identifier t f) (length_octets len)
 
-pub definite-length : (t : Tag) (f : Bool) (c : List ℕ) → length (definite t f c) ≡ length (identifier t f) + length (length_octets (Definite (length c))) + length c
+pub definite-length : (t : Tag) (f : Bool) (c : List ℕ)
+    → length (definite t f c) ≡ length (identifier t f) + length (length_octets (Definite (length c))) + length c
 definite-length t f c = length-append (header t f (Definite (length c))) c ∙ ap (λ n. n + length c) (header-length t f (Definite (length c)))
 
 identifier_some : (t : Tag) (f : Bool) → identifier t f ≢ []

@@ -1,5 +1,6 @@
 -- What follows from passing over a header.
-use Rattle.std.proofs.Common.{◌≡◌, ◌≢◌, ◌↔◌, ℕ, ◌-◌, ◌≤◌, List, [], ◌∷◌, ◌++◌, length, take, drop, Option, Some, None, refl, ap, sym, ◌∙◌, arith, subst, inl, inr}
+use Rattle.std.proofs.Common.{◌≡◌, ◌≢◌, ◌↔◌, ℕ, ◌-◌, ◌≤◌, List, [], ◌∷◌, ◌++◌, length, take, drop, Option}
+use Rattle.std.proofs.Common.{Some, None, refl, ap, sym, ◌∙◌, arith, subst, inl, inr}
 use Rattle.std.proofs.lemmas.List.{take-append-drop, length-take-le, take_at}
 use Rattle.std.proofs.lemmas.Grind.{common_steps}
 use Rattle.bcder.specs.declared.mode.Mode.{Mode}
@@ -16,14 +17,18 @@ use Rattle.bcder.specs.steps.Peek.{asked, HasOtherTag, HasNoHeader}
 use Rattle.bcder.specs.calls.Stream.{Layer, Stream, IsSound, Grew, cut, past, limited}
 use Rattle.bcder.specs.declared.decode.error.ContentError.{ContentError}
 use Rattle.bcder.specs.calls.Cause.{Cause}
-use Rattle.bcder.specs.calls.Content.{Reading, Asked, any, tagged, IsAsked, HasHeader, HasMarker, IndefiniteValues, HasOther, Falls, FitsOwed, Advances, Moves, Enters, TakesMarker, NoFront, Resembles, HasLongValue, values, Octets, DefiniteValues, UnboundedValues, IsAtEnd, of_octets, of_definite, of_indefinite, of_unbounded, NotAtEnd, IsElsewhere, none_left, other, marker, IsMissing, NothingThere, RefusesHeader, failed, source, nothing}
+use Rattle.bcder.specs.calls.Content.{Reading, Asked, any, tagged, IsAsked, HasHeader, HasMarker, IndefiniteValues, HasOther, Falls, FitsOwed}
+use Rattle.bcder.specs.calls.Content.{Advances, Moves, Enters, TakesMarker, NoFront, Resembles, HasLongValue, values, Octets, DefiniteValues}
+use Rattle.bcder.specs.calls.Content.{UnboundedValues, IsAtEnd, of_octets, of_definite, of_indefinite, of_unbounded, NotAtEnd, IsElsewhere, none_left}
+use Rattle.bcder.specs.calls.Content.{other, marker, IsMissing, NothingThere, RefusesHeader, failed, source, nothing}
 use Rattle.bcder.specs.calls.Calls.{RefusesEnd, left_failed, source_failed, left_open}
 use Rattle.bcder.specs.laws.Limits.{limit_told_after, limited_sound}
 use Rattle.bcder.specs.laws.Sound.{none_is}
 use Rattle.bcder.specs.laws.Stands.{Headed, header_sound}
 use Rattle.bcder.specs.laws.Moved.{Falls-refl}
 use Rattle.bcder.proofs.Moving.{moves_failed, moves_marker, moves_still, open_not_ended}
-use Rattle.bcder.proofs.Headers.{no_header_unread, no_header_empty, header_no_marker, no_marker_unread, no_marker_empty, no_other_front, no_other_end, no_other_unread, other_of, front_of_read, marker_of_end, end_no_header, header_no_end, no_header_long, size_is}
+use Rattle.bcder.proofs.Headers.{no_header_unread, no_header_empty, header_no_marker, no_marker_unread, no_marker_empty, no_other_front, no_other_end}
+use Rattle.bcder.proofs.Headers.{no_other_unread, other_of, front_of_read, marker_of_end, end_no_header, header_no_end, no_header_long, size_is}
 use Rattle.bcder.proofs.Naming.{of_violation, long_value}
 
 -- ---- an advance of a limited source
@@ -44,13 +49,15 @@ first_layer x y xs ys e = cc
 
 module _ (c d : Reading) (s s' : Stream) (o o' : Option ℕ) (n : ℕ)
     (cs : c.stream ≡ limited o s) (co : c.owed ≡ o) (ds : d.stream ≡ limited o' s') (do' : d.owed ≡ o') where
-  pub advances_by : IsSound s → (limited o' s').rest ≡ drop n (limited o s).rest → (limited o' s').faults ≡ (limited o s).faults → (limited o' s').kept ≡ (limited o s).kept → n ≤ (limited o s).avail → d.kind ≡ c.kind → d.mode ≡ c.mode → d.name ≡ c.name → Advances c d (take n c.stream.rest)
+  pub advances_by : IsSound s → (limited o' s').rest ≡ drop n (limited o s).rest → (limited o' s').faults ≡ (limited o s).faults → (limited o' s').kept
+      ≡ (limited o s).kept → n ≤ (limited o s).avail → d.kind ≡ c.kind → d.mode ≡ c.mode → d.name ≡ c.name → Advances c d (take n c.stream.rest)
   advances_by so r f k a ki mo na =
       let q : IsSound (limited o s) = limited_sound o s so in
       let w : n ≤ length (cut o s.rest) = (let h : (limited o s).avail ≤ length (cut o s.rest) = q.at_hand in omega arith) in
       let e : cut o s.rest ≡ c.stream.rest = ap (λ x. x.rest) (sym cs) in
       record {
-        rest = sym (take-append-drop n c.stream.rest) ∙ ap (λ x. take n c.stream.rest ++ drop n x) (sym e) ∙ ap (λ x. take n c.stream.rest ++ x) (sym r ∙ ap (λ x. x.rest) (sym ds));
+        rest = sym (take-append-drop n c.stream.rest) ∙ ap (λ x. take n c.stream.rest ++ drop n x) (sym e)
+            ∙ ap (λ x. take n c.stream.rest ++ x) (sym r ∙ ap (λ x. x.rest) (sym ds));
         owed = (let g : Falls o n o' = falls_after o o' s.rest s'.rest n r w (first_layer _ _ _ _ k) in
             let l : length (take n c.stream.rest) ≡ n = length-take-le n c.stream.rest (subst (λ x. n ≤ length x) e w) in
             rw (co, do', l) g);
@@ -76,7 +83,8 @@ empty_unended : (m : Mode) → read_end m [] ≡ None
 unfolding read_end
 empty_unended m = refl
 
-module _ (c d : Reading) (n : ℕ) (a : Advances c d (take n c.stream.rest)) (o : AreOctets c.stream.rest) (l : n ≤ length c.stream.rest) (s : c.state ≡ Open) where
+module _ (c d : Reading) (n : ℕ) (a : Advances c d (take n c.stream.rest)) (o : AreOctets c.stream.rest) (l : n ≤ length c.stream.rest)
+    (s : c.state ≡ Open) where
   rest_is : d.stream.rest ≡ drop n c.stream.rest
   rest_is = after_take (take n c.stream.rest) d.stream.rest (drop n c.stream.rest) (sym a.rest ∙ sym (take-append-drop n c.stream.rest))
     where
@@ -137,9 +145,12 @@ module _ (c d : Reading) (n : ℕ) (a : Advances c d (take n c.stream.rest)) (o 
     }
 
 pub within : (o : Option ℕ) (s : Stream) (n : ℕ) → IsSound s → n ≤ (limited o s).avail → (AreOctets (cut o s.rest)) × (n ≤ length (cut o s.rest))
-within o s n so w = let q : IsSound (limited o s) = limited_sound o s so in (q.octets, (let h : (limited o s).avail ≤ length (cut o s.rest) = q.at_hand in omega arith))
+within o s n so w =
+    let q : IsSound (limited o s) = limited_sound o s so in
+    (q.octets, (let h : (limited o s).avail ≤ length (cut o s.rest) = q.at_hand in omega arith))
 
-pub advances_to : (c d e : Reading) (p : List ℕ) → Advances c d p → e.stream ≡ d.stream → e.owed ≡ d.owed → e.kind ≡ d.kind → e.mode ≡ d.mode → e.name ≡ d.name → Advances c e p
+pub advances_to : (c d e : Reading) (p : List ℕ) → Advances c d p → e.stream ≡ d.stream → e.owed ≡ d.owed → e.kind ≡ d.kind → e.mode ≡ d.mode
+    → e.name ≡ d.name → Advances c e p
 advances_to c d e p a s o k m n = record {
   rest = a.rest ∙ ap (λ x. p ++ x.rest) (sym s);
   owed = rw o a.owed;
@@ -172,10 +183,19 @@ module _ (c d : Reading) (s : Resembles c d) (f : c.stream.faults ≤ d.stream.f
   looked_moves = moves_still c d s.rest s.kept f s.owed s.kind (λ _. s.mode) s.name s.state (λ e. s.marked ∙ e)
 
   -- and then failed
-  pub looked_failed : (e : Reading) → c.state ≡ Open → e.stream ≡ d.stream → e.owed ≡ d.owed → e.kind ≡ d.kind → e.mode ≡ d.mode → e.name ≡ d.name → e.marked ≡ d.marked → e.state ≡ Failed → Moves c e
+  pub looked_failed : (e : Reading) → c.state ≡ Open → e.stream ≡ d.stream → e.owed ≡ d.owed → e.kind ≡ d.kind → e.mode ≡ d.mode → e.name ≡ d.name
+      → e.marked ≡ d.marked → e.state ≡ Failed → Moves c e
   looked_failed e o a b k m n g st =
       moves_failed c e []
-      (record { rest = sym s.rest ∙ ap (λ x. x.rest) (sym a); owed = (let x : Falls c.owed 0 c.owed = Falls-refl c.owed in rw (b, s.owed) x); kept = ap (λ x. x.kept) a ∙ s.kept; faults = omega (arith, f, ap (λ x. x.faults) a); kind = k ∙ s.kind; mode = m ∙ s.mode; name = n ∙ s.name })
+      (record {
+        rest = sym s.rest ∙ ap (λ x. x.rest) (sym a);
+        owed = (let x : Falls c.owed 0 c.owed = Falls-refl c.owed in rw (b, s.owed) x);
+        kept = ap (λ x. x.kept) a ∙ s.kept;
+        faults = omega (arith, f, ap (λ x. x.faults) a);
+        kind = k ∙ s.kind;
+        mode = m ∙ s.mode;
+        name = n ∙ s.name;
+      })
       (λ x. g ∙ s.marked ∙ x) (open_not_ended c.state o) st
 
   pub looked_enters : d.stream.faults ≡ c.stream.faults → (h : Header) (e : Reading) → Enters d h e → Enters c h e
@@ -216,7 +236,8 @@ module _ (c d : Reading) (s : Resembles c d) (f : c.stream.faults ≤ d.stream.f
   looked_front x = record {
     some = λ e. x.some (s.rest ∙ e);
     header = λ asked after y. x.header asked after (looked_header asked after y);
-    marker = λ k after y. x.marker (s.kind ∙ k) after (subst (λ m. HasMarker m d.stream.rest after) (sym s.mode) (subst (λ z. HasMarker c.mode z after) (sym s.rest) y));
+    marker = λ k after y. x.marker (s.kind ∙ k) after
+        (subst (λ m. HasMarker m d.stream.rest after) (sym s.mode) (subst (λ z. HasMarker c.mode z after) (sym s.rest) y));
   }
 
 -- ---- a value of any tag
@@ -241,7 +262,8 @@ unread_front c l e n = record {
   marker = λ k after m. no_marker_unread c.mode c.stream.rest after n m;
 }
 
-pub empty_nothing : (c : Reading) → c.kind ≢ Octets → (c.kind ≡ DefiniteValues → c.owed ≡ Some 0 → ⊥) → (c.kind ≡ UnboundedValues → ⊥) → c.state ≡ Open → c.stream.rest ≡ [] → NothingThere any c
+pub empty_nothing : (c : Reading) → c.kind ≢ Octets → (c.kind ≡ DefiniteValues → c.owed ≡ Some 0 → ⊥) → (c.kind ≡ UnboundedValues → ⊥) → c.state ≡ Open
+    → c.stream.rest ≡ [] → NothingThere any c
 empty_nothing c k d u o e = record {
   usable = o;
   header = λ after h. no_header_empty any c after e h;
@@ -265,7 +287,18 @@ header_not_at_end c after w o h = record { none = λ b e. elim e [ inl y ↦ ope
     at_end b (of_unbounded q z) = no_header_empty any c after z h
 
 abbrev pub header_entered : (c : Reading) (h : Header) (d : Reading) (asked : Asked) → IsAsked asked h.tag → Enters c h d → HasHeader asked c d.stream.rest
-header_entered c h d asked t x = record { tag = h.tag; form = h.form; len = h.len; octets = x.octets; is_header = x.is_header; is_asked = t; rest = x.advances.rest; owed = d.owed; falls = x.advances.owed; fits = x.fits }
+header_entered c h d asked t x = record {
+  tag = h.tag;
+  form = h.form;
+  len = h.len;
+  octets = x.octets;
+  is_header = x.is_header;
+  is_asked = t;
+  rest = x.advances.rest;
+  owed = d.owed;
+  falls = x.advances.owed;
+  fits = x.fits;
+}
 
 -- ---- a value of one tag
 
@@ -282,10 +315,12 @@ module _ (c : Reading) (t : Tag) (o : c.state ≡ Open) (n : NoFront c) (no_othe
       elsewhere after (other z s) = no_other z
       elsewhere after (marker z k m) = n.marker k after m
 
-pub if_nothing : (c : Reading) (t : Tag) (h : Header) (x : List ℕ) → c.state ≡ Open → NoFront c → read_header c.mode c.stream.rest ≡ Some (h, x) → h.tag ≡ t → NothingThere (tagged t) c
+pub if_nothing : (c : Reading) (t : Tag) (h : Header) (x : List ℕ) → c.state ≡ Open → NoFront c → read_header c.mode c.stream.rest ≡ Some (h, x) → h.tag ≡ t
+    → NothingThere (tagged t) c
 if_nothing c t h x o n r e = front_is_nothing c t o n (no_other_front c.mode t c.stream.rest h x (front_of_read c.mode c.stream.rest h x r) e)
 
-pub if_ended : (c : Reading) (t : Tag) (x : List ℕ) → c.state ≡ Open → NoFront c → read_end c.mode c.stream.rest ≡ Some x → end_of_contents ≡ t → NothingThere (tagged t) c
+pub if_ended : (c : Reading) (t : Tag) (x : List ℕ) → c.state ≡ Open → NoFront c → read_end c.mode c.stream.rest ≡ Some x → end_of_contents ≡ t
+    → NothingThere (tagged t) c
 if_ended c t x o n r e = front_is_nothing c t o n (no_other_end c.mode t c.stream.rest x r e)
 
 pub if_unread : (c : Reading) (t : Tag) → c.state ≡ Open → 1 ≤ length c.stream.rest → HasNoHeader c.mode (tagged t) c.stream.rest → NothingThere (tagged t) c
@@ -303,21 +338,28 @@ grew_least a b g = g.no_smaller
 module _ (c d : Reading) (s : Resembles c d) (o : c.state ≡ Open) where
   pub other_missing : (w : Wanted) → Within c → HasOtherTag (asked w) d.stream.rest → IsMissing (asked w) c d
   other_missing Any i u = absurd (u.4 refl)
-  other_missing (Tagged t) i u = (inr (o, other (other_of t c.stream.rest i.octets (subst (λ z. HasOtherTag (tagged t) z) s.rest u)) s.rest), inl (s.state, s.rest))
+  other_missing (Tagged t) i u =
+      (inr (o, other (other_of t c.stream.rest i.octets (subst (λ z. HasOtherTag (tagged t) z) s.rest u)) s.rest), inl (s.state, s.rest))
 
-  pub none_nothing : (w : Wanted) → (w ≡ Any) → c.kind ≢ Octets → (c.kind ≡ DefiniteValues → c.owed ≡ Some 0 → ⊥) → (c.kind ≡ UnboundedValues → ⊥) → d.stream.rest ≡ [] → NothingThere (asked w) c
+  pub none_nothing : (w : Wanted) → (w ≡ Any) → c.kind ≢ Octets → (c.kind ≡ DefiniteValues → c.owed ≡ Some 0 → ⊥) → (c.kind ≡ UnboundedValues → ⊥)
+      → d.stream.rest ≡ [] → NothingThere (asked w) c
   none_nothing Any a k n u e = empty_nothing c k n u o (sym s.rest ∙ e)
   none_nothing (Tagged t) a k n u e = absurd cc
 
-  pub unread_nothing : (w : Wanted) → Within c → c.kind ≢ Octets → 1 ≤ length d.stream.rest → HasNoHeader c.mode (asked w) d.stream.rest → NothingThere (asked w) c
-  unread_nothing Any i k l u = front_nothing c i k o (unread_front c (subst (λ z. 1 ≤ length z) s.rest l) (subst (λ z. read_header c.mode z ≡ None) s.rest u.0) (subst (λ z. read_end c.mode z ≡ None) s.rest u.1))
+  pub unread_nothing : (w : Wanted) → Within c → c.kind ≢ Octets → 1 ≤ length d.stream.rest → HasNoHeader c.mode (asked w) d.stream.rest
+      → NothingThere (asked w) c
+  unread_nothing Any i k l u = front_nothing c i k o (unread_front c (subst (λ z. 1 ≤ length z) s.rest l) (subst (λ z. read_header c.mode z ≡ None) s.rest u.0)
+      (subst (λ z. read_end c.mode z ≡ None) s.rest u.1))
   unread_nothing (Tagged t) i k l u = if_unread c t o (subst (λ z. 1 ≤ length z) s.rest l) (subst (λ z. HasNoHeader c.mode (tagged t) z) s.rest u)
 
-  pub header_nothing : (w : Wanted) → Within c → c.kind ≢ Octets → NoFront c → (h : Header) (x : List ℕ) → read_header d.mode d.stream.rest ≡ Some (h, x) → IsAsked (asked w) h.tag → NothingThere (asked w) c
+  pub header_nothing : (w : Wanted) → Within c → c.kind ≢ Octets → NoFront c → (h : Header) (x : List ℕ) → read_header d.mode d.stream.rest ≡ Some (h, x)
+      → IsAsked (asked w) h.tag → NothingThere (asked w) c
   header_nothing Any i k n h x r e = front_nothing c i k o n
-  header_nothing (Tagged t) i k n h x r e = if_nothing c t h x o n (subst (λ m. read_header m c.stream.rest ≡ Some (h, x)) s.mode (subst (λ z. read_header d.mode z ≡ Some (h, x)) s.rest r)) e
+  header_nothing (Tagged t) i k n h x r e =
+      if_nothing c t h x o n (subst (λ m. read_header m c.stream.rest ≡ Some (h, x)) s.mode (subst (λ z. read_header d.mode z ≡ Some (h, x)) s.rest r)) e
 
-  pub end_nothing : (w : Wanted) → Within c → c.kind ≢ Octets → NoFront c → (x : List ℕ) → read_end c.mode d.stream.rest ≡ Some x → IsAsked (asked w) end_of_contents → NothingThere (asked w) c
+  pub end_nothing : (w : Wanted) → Within c → c.kind ≢ Octets → NoFront c → (x : List ℕ) → read_end c.mode d.stream.rest ≡ Some x
+      → IsAsked (asked w) end_of_contents → NothingThere (asked w) c
   end_nothing Any i k n x r e = front_nothing c i k o n
   end_nothing (Tagged t) i k n x r e = if_ended c t x o n (subst (λ z. read_end c.mode z ≡ Some x) s.rest r) e
 

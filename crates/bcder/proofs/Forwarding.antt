@@ -15,7 +15,8 @@ use Rattle.bcder.proofs.SameBorrow.{primitive_form, constructed_form}
 pub primitive_content : {S : Type 0} (stream : S → Stream) (a : Content S) (p : Primitive S) → a ≡ variant.Primitive p → (of_content stream a).kind ≡ Octets
 primitive_content stream a p e = ap (λ x. (of_content stream x).kind) e ∙ primitive_form stream p
 
-pub constructed_content : {S : Type 0} (stream : S → Stream) (a : Content S) (p : Constructed S) → a ≡ variant.Constructed p → (of_content stream a).kind ≢ Octets
+pub constructed_content : {S : Type 0} (stream : S → Stream) (a : Content S) (p : Constructed S) → a ≡ variant.Constructed p
+    → (of_content stream a).kind ≢ Octets
 constructed_content stream a p e o = constructed_form stream p (ap (λ x. (of_content stream x).kind) (sym e) ∙ o)
 
 module _ {C T E : Type 0} (view : C → Reading) (post : MutBor C → Result T E → MutBor C → Type 0) (i j : Reading) where
@@ -23,6 +24,7 @@ module _ {C T E : Type 0} (view : C → Reading) (post : MutBor C → Result T E
   on_ok_on (Ok x) a = a
   on_ok_on (Err e) a = tt
 
-  pub on_err_on : (P : E → Type 0) (r : Result T E) → Answered {R = Result T E} view post i r j → IfErr r (λ e. P e ⊎ Answered {R = Result T E} view post i (Err e) j)
+  pub on_err_on : (P : E → Type 0) (r : Result T E) → Answered {R = Result T E} view post i r j
+      → IfErr r (λ e. P e ⊎ Answered {R = Result T E} view post i (Err e) j)
   on_err_on P (Ok x) a = tt
   on_err_on P (Err e) a = inr a

@@ -21,14 +21,17 @@ none_whole mode w h = record { values = no_trees; encode = h }
 
 -- what was written behind octets is what is meant
 pub written_grows : {M : Meaning → Type 0} {lacks : Type 0} (mode : Mode) (old new : List ℕ) (r : Result (Unit {0}) WriteError)
-    → IsLawful mode M → HasEncoding M → WritesEncoding M lacks (Some old) (Some new) r → r ≡ Ok tt → GrowsBy M (kept_from_start mode old) (kept_from_start mode new)
+    → IsLawful mode M → HasEncoding M → WritesEncoding M lacks (Some old) (Some new) r → r ≡ Ok tt
+    → GrowsBy M (kept_from_start mode old) (kept_from_start mode new)
 written_grows {M} {lacks} mode old new r lawful (e, m) writes is =
     let done : DoneOf lacks e.octets (Some old) (Some new) (Ok tt) = subst (λ x. DoneOf lacks e.octets (Some old) (Some new) x) is (writes e m).done in
     record { what = e; meant = m; octets = done; mode = refl; start = refl; encode = the_encodings lawful e m }
 
 -- whole values behind whole values are whole
-pub whole_grown : {M : Meaning → Type 0} (mode : Mode) (old new : List ℕ) → AreWhole mode old → GrowsBy M (kept_from_start mode old) (kept_from_start mode new) → AreWhole mode new
+pub whole_grown : {M : Meaning → Type 0} (mode : Mode) (old new : List ℕ) → AreWhole mode old
+    → GrowsBy M (kept_from_start mode old) (kept_from_start mode new) → AreWhole mode new
 whole_grown mode old new h g = record {
   values = h.values +++ g.what.values;
-  encode = subst (AreEncodings mode (h.values +++ g.what.values)) (sym g.octets) (AreEncodings-join mode h.values g.what.values old g.what.octets h.encode g.encode.encode);
+  encode = subst (AreEncodings mode (h.values +++ g.what.values)) (sym g.octets)
+      (AreEncodings-join mode h.values g.what.values old g.what.octets h.encode g.encode.encode);
 }

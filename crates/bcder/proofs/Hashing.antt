@@ -41,17 +41,20 @@ module _ {S : Type 0} (write : S → List ℕ → S) (s t all : S) where
   last_written a v e p l is h = e ∙ sym (ap (fold write s) (block_last a p l)) ∙ sym (ap (λ z. fold write s (blocks z)) is) ∙ h
 
   -- a block of one part is handed over; r is left of the part, x stands behind it, and p is the next
-  pub block_passed : (part a r x p : List ℕ) → t ≡ write s a → part ≡ a ++ r → length a ≡ 64 → p ≡ r ++ x → fold write s (blocks (part ++ x)) ≡ all → fold write t (blocks p) ≡ all
+  pub block_passed : (part a r x p : List ℕ) → t ≡ write s a → part ≡ a ++ r → length a ≡ 64 → p ≡ r ++ x → fold write s (blocks (part ++ x)) ≡ all
+      → fold write t (blocks p) ≡ all
   block_passed part a r x p e is l p_is h =
       ap (λ z. fold write t (blocks z)) p_is ∙ block_written a (r ++ x) (part ++ x) e l (ap (λ z. z ++ x) is ∙ append_assoc a r x) h
 
   -- a block of several parts is handed over; p is left of a part, and x stands behind it
-  pub together_passed : (b p x v : List ℕ) → t ≡ write s b → b ++ (p ++ x) ≡ v → 0 < length b → length b ≤ 64 → (length b < 64 → p ≡ []) → (p ≡ [] → x ≡ []) → fold write s (blocks v) ≡ all → fold write t (blocks (p ++ x)) ≡ all
+  pub together_passed : (b p x v : List ℕ) → t ≡ write s b → b ++ (p ++ x) ≡ v → 0 < length b → length b ≤ 64 → (length b < 64 → p ≡ []) → (p ≡ [] → x ≡ [])
+      → fold write s (blocks v) ≡ all → fold write t (blocks (p ++ x)) ≡ all
   together_passed b p x v e is some most full ends h = by (cases_lt (length b) 64)
     where
       by : (length b < 64) ⊎ (64 ≤ length b) → fold write t (blocks (p ++ x)) ≡ all
       by (inl short) =
           let p_is = full short in
           let x_is = ends p_is in
-          ap (λ z. fold write t (blocks (z ++ x))) p_is ∙ ap (λ z. fold write t (blocks z)) x_is ∙ last_written b v e some most (none_left b p x v is p_is x_is) h
+          ap (λ z. fold write t (blocks (z ++ x))) p_is ∙ ap (λ z. fold write t (blocks z)) x_is
+          ∙ last_written b v e some most (none_left b p x v is p_is x_is) h
       by (inr long) = block_written b (p ++ x) v e (omega (arith, long, most)) (sym is) h

@@ -1,5 +1,6 @@
 -- What stands in front of octets, by what is read there.
-use Rattle.std.proofs.Common.{◌≡◌, ℕ, zero, suc, ◌+◌, ◌-◌, ◌≤◌, Bool, true, false, cond, List, [], ◌∷◌, ◌++◌, length, drop, Option, Some, None, option_map, option_and_then, refl, ap, sym, ◌∙◌, arith, length-append, append_assoc, subst, inl, inr}
+use Rattle.std.proofs.Common.{◌≡◌, ℕ, zero, suc, ◌+◌, ◌-◌, ◌≤◌, Bool, true, false, cond, List, [], ◌∷◌, ◌++◌, length, drop, Option, Some, None}
+use Rattle.std.proofs.Common.{option_map, option_and_then, refl, ap, sym, ◌∙◌, arith, length-append, append_assoc, subst, inl, inr}
 use Rattle.std.proofs.lemmas.Grind.{common_steps}
 use Rattle.bcder.specs.declared.mode.Mode.{Mode}
 use Rattle.bcder.specs.declared.length.Length.{Length}
@@ -18,11 +19,13 @@ use Rattle.bcder.specs.laws.Complete.{one_header, header_size, header_complete}
 
 -- ---- what stands in front is read
 
-pub front_of_parts : (mode : Mode) (t : Tag) (f : Bool) (len : Length) (l x : List ℕ) → IsTag t → read_length mode (l ++ x) ≡ Some (len, x) → read_front mode (identifier t f ++ (l ++ x)) ≡ Some (record { tag = t; form = f; len = len }, x)
+pub front_of_parts : (mode : Mode) (t : Tag) (f : Bool) (len : Length) (l x : List ℕ) → IsTag t → read_length mode (l ++ x) ≡ Some (len, x)
+    → read_front mode (identifier t f ++ (l ++ x)) ≡ Some (record { tag = t; form = f; len = len }, x)
 unfolding read_front
 front_of_parts mode t f len l x i e = rw (read_identifier-identifier t f (l ++ x) i, e) refl
 
-pub front_of_header : (mode : Mode) (t : Tag) (f : Bool) (len : Length) (h w x : List ℕ) → IsHeader mode t f len h → w ≡ h ++ x → read_front mode w ≡ Some (record { tag = t; form = f; len = len }, x)
+pub front_of_header : (mode : Mode) (t : Tag) (f : Bool) (len : Length) (h w x : List ℕ) → IsHeader mode t f len h → w ≡ h ++ x
+    → read_front mode w ≡ Some (record { tag = t; form = f; len = len }, x)
 front_of_header mode t f len h w x d e =
     ap (read_front mode) (e ∙ ap (λ z. z ++ x) d.is ∙ append_assoc (identifier t f) d.length_octets x)
     ∙ front_of_parts mode t f len d.length_octets x d.is_value_tag.fits (read_length-tells mode len d.length_octets x d.tells)
@@ -37,7 +40,8 @@ record Parts (mode : Mode) (w : List ℕ) (h : Header) (x : List ℕ) : Type 0 w
 pair_is : {A : Type 0} (a b : A) (x y : List ℕ) → ◌≡◌ {A = A × List ℕ} (a, x) (b, y) → (a ≡ b) × (x ≡ y)
 pair_is a b x y e = (ap (λ r. r.0) e, ap (λ r. r.1) e)
 
-parts_at : (mode : Mode) (w : List ℕ) (h : Header) (x after : List ℕ) (t : Tag) (f : Bool) (l : Length) (y : List ℕ) → read_identifier w ≡ Some (t, f, after) → read_length mode after ≡ Some (l, y) → ◌≡◌ {A = Header} (record { tag = t; form = f; len = l }) h → y ≡ x → Parts mode w h x
+parts_at : (mode : Mode) (w : List ℕ) (h : Header) (x after : List ℕ) (t : Tag) (f : Bool) (l : Length) (y : List ℕ) → read_identifier w ≡ Some (t, f, after)
+    → read_length mode after ≡ Some (l, y) → ◌≡◌ {A = Header} (record { tag = t; form = f; len = l }) h → y ≡ x → Parts mode w h x
 parts_at mode w h x after t f l y i r e s = record {
   after = after;
   identified = i ∙ (let a : t ≡ h.tag = ap (λ z. z.tag) e in let b : f ≡ h.form = ap (λ z. z.form) e in rw (a, b) refl);
@@ -53,22 +57,28 @@ parts mode w h x e =
     parts_at mode w h x a.0.2 a.0.0 a.0.1 b.0.0 b.0.1 a.1 b.1 p.0 p.1
 
 -- a header with another tag is the identifier octets of that one
-pub other_of_front : (mode : Mode) (asked : Asked) (w : List ℕ) (h : Header) (x : List ℕ) → read_front mode w ≡ Some (h, x) → (IsAsked asked h.tag → ⊥) → HasOtherTag asked w
+pub other_of_front : (mode : Mode) (asked : Asked) (w : List ℕ) (h : Header) (x : List ℕ) → read_front mode w ≡ Some (h, x)
+    → (IsAsked asked h.tag → ⊥) → HasOtherTag asked w
 other_of_front mode asked w h x e d = let p = parts mode w h x e in (h.tag, h.form, p.after, p.identified, d)
 
-header_read : (mode : Mode) (w : List ℕ) (h : Header) (x : List ℕ) → Parts mode w h x → is_value_tag h.tag ≡ true → may_have mode h.form h.len ≡ true → read_header mode w ≡ Some (h, x)
+header_read : (mode : Mode) (w : List ℕ) (h : Header) (x : List ℕ) → Parts mode w h x → is_value_tag h.tag ≡ true → may_have mode h.form h.len ≡ true
+    → read_header mode w ≡ Some (h, x)
 unfolding read_header
 header_read mode w h x p v a = rw (p.identified, v, p.told, a) refl
 
-pub header_of_front : (mode : Mode) (w : List ℕ) (h : Header) (x : List ℕ) → read_front mode w ≡ Some (h, x) → is_value_tag h.tag ≡ true → may_have mode h.form h.len ≡ true → read_header mode w ≡ Some (h, x)
+pub header_of_front : (mode : Mode) (w : List ℕ) (h : Header) (x : List ℕ) → read_front mode w ≡ Some (h, x) → is_value_tag h.tag ≡ true
+    → may_have mode h.form h.len ≡ true → read_header mode w ≡ Some (h, x)
 header_of_front mode w h x e v a = header_read mode w h x (parts mode w h x e) v a
 
 header_parts : (mode : Mode) (w : List ℕ) (h : Header) (x : List ℕ) → read_header mode w ≡ Some (h, x) → Parts mode w h x
 unfolding read_header
 header_parts mode w h x e =
-    let a = chained (λ i. cond (is_value_tag i.0) (option_and_then (λ l. cond (may_have mode i.1 l.0) (Some (record { tag = i.0; form = i.1; len = l.0 }, l.1)) None) (read_length mode i.2)) None) (read_identifier w) (h, x) e in
+    let a = chained (λ i. cond (is_value_tag i.0)
+    (option_and_then (λ l. cond (may_have mode i.1 l.0) (Some (record { tag = i.0; form = i.1; len = l.0 }, l.1)) None) (read_length mode i.2)) None)
+    (read_identifier w) (h, x) e in
     let p = passed (is_value_tag a.0.0) _ _ a.2 in
-    let b = chained (λ l. cond (may_have mode a.0.1 l.0) (Some (record { tag = a.0.0; form = a.0.1; len = l.0 }, l.1)) None) (read_length mode a.0.2) (h, x) p.1 in
+    let b = chained (λ l. cond (may_have mode a.0.1 l.0) (Some (record { tag = a.0.0; form = a.0.1; len = l.0 }, l.1)) None)
+    (read_length mode a.0.2) (h, x) p.1 in
     let q = passed (may_have mode a.0.1 b.0.0) _ _ b.2 in
     let r = pair_is _ h b.0.1 x (some_inj _ _ q.1) in
     parts_at mode w h x a.0.2 a.0.0 a.0.1 b.0.0 b.0.1 a.1 b.1 r.0 r.1
@@ -116,7 +126,8 @@ header_inj w mode h k x y a b = pair_is h k x y (some_inj (h, x) (k, y) (sym a �
 pub header_is : (asked : Asked) (c : Reading) (after : List ℕ) → HasHeader asked c after → Header
 header_is asked c after d = record { tag = d.tag; form = d.form; len = d.len }
 
-pub has_header : (asked : Asked) (c : Reading) (after : List ℕ) (d : HasHeader asked c after) → read_header c.mode c.stream.rest ≡ Some (header_is asked c after d, after)
+pub has_header : (asked : Asked) (c : Reading) (after : List ℕ) (d : HasHeader asked c after)
+    → read_header c.mode c.stream.rest ≡ Some (header_is asked c after d, after)
 unfolding header_is
 has_header asked c after d = ap (read_header c.mode) d.rest ∙ header_complete c.mode d.tag d.form d.len d.octets after d.is_header
 
@@ -143,7 +154,8 @@ falls_at (Some z) None p k f g = absurd (f refl)
 falls_at (Some z) (Some a) None k f g = absurd (g refl)
 falls_at (Some z) (Some a) (Some b) k f g = ap Some (omega arith)
 
-pub no_header_long : (asked : Asked) (c : Reading) (after : List ℕ) (h : Header) (n : ℕ) (o : Option ℕ) → read_header c.mode c.stream.rest ≡ Some (h, drop n c.stream.rest) → n ≤ length c.stream.rest → Falls c.owed n o → (FitsOwed h.len o → ⊥) → HasHeader asked c after → ⊥
+pub no_header_long : (asked : Asked) (c : Reading) (after : List ℕ) (h : Header) (n : ℕ) (o : Option ℕ) → read_header c.mode c.stream.rest
+    ≡ Some (h, drop n c.stream.rest) → n ≤ length c.stream.rest → Falls c.owed n o → (FitsOwed h.len o → ⊥) → HasHeader asked c after → ⊥
 unfolding header_is
 no_header_long asked c after h n o e l f unfit d =
     let p = header_inj c.stream.rest c.mode _ h after (drop n c.stream.rest) (has_header asked c after d) e in
@@ -168,10 +180,14 @@ tag_inj : (a b : Tag) (f g : Bool) (x y : List ℕ) → ◌≡◌ {A = Option (T
 tag_inj a b f g x y e = let p : ◌≡◌ {A = Tag × Bool × List ℕ} (a, f, x) (b, g, y) = cc in ap (λ q. q.0) p
 
 pub no_other_front : (mode : Mode) (t : Tag) (w : List ℕ) (h : Header) (x : List ℕ) → read_front mode w ≡ Some (h, x) → h.tag ≡ t → HasOther t w → ⊥
-no_other_front mode t w h x e s o = let p = parts mode w h x e in o.differs (tag_inj o.tag h.tag o.form h.form o.after p.after (sym (identified_of t w o) ∙ p.identified) ∙ s)
+no_other_front mode t w h x e s o =
+    let p = parts mode w h x e in
+    o.differs (tag_inj o.tag h.tag o.form h.form o.after p.after (sym (identified_of t w o) ∙ p.identified) ∙ s)
 
 pub no_other_end : (mode : Mode) (t : Tag) (w x : List ℕ) → read_end mode w ≡ Some x → end_of_contents ≡ t → HasOther t w → ⊥
-no_other_end mode t w x e s o = let i = end_identified mode w x e in o.differs (tag_inj o.tag end_of_contents o.form false o.after i.0 (sym (identified_of t w o) ∙ i.1) ∙ s)
+no_other_end mode t w x e s o =
+    let i = end_identified mode w x e in
+    o.differs (tag_inj o.tag end_of_contents o.form false o.after i.0 (sym (identified_of t w o) ∙ i.1) ∙ s)
 
 pub no_other_unread : (mode : Mode) (t : Tag) (w : List ℕ) → HasNoHeader mode (tagged t) w → HasOther t w → ⊥
 no_other_unread mode t w n o = n.2 (o.tag, o.form, o.after, identified_of t w o, o.differs)
@@ -181,20 +197,24 @@ no_other_unread mode t w n o = n.2 (o.tag, o.form, o.after, identified_of t w o,
 pub data Shape (mode : Mode) (form : Bool) (len : Length) (x y : List ℕ) : Type 0 where
   is_primitive : (b : List ℕ) → form ≡ false → len ≡ Definite (length b) → y ≡ b ++ x → Shape mode form len x y
   is_definite : (ts : Trees) (b : List ℕ) → form ≡ true → len ≡ Definite (length b) → AreEncodings mode ts b → y ≡ b ++ x → Shape mode form len x y
-  is_indefinite : (ts : Trees) (b e : List ℕ) → form ≡ true → len ≡ Indefinite → AreEncodings mode ts b → IsEndOfContents mode e → y ≡ b ++ (e ++ x) → Shape mode form len x y
+  is_indefinite : (ts : Trees) (b e : List ℕ) → form ≡ true → len ≡ Indefinite → AreEncodings mode ts b → IsEndOfContents mode e → y ≡ b ++ (e ++ x)
+      → Shape mode form len x y
 
 module _ (mode : Mode) (u : Tag) (form : Bool) (len : Length) (h y : List ℕ) (d : IsHeader mode u form len h) where
   shape_primitive : (t : Tag) (b v x : List ℕ) → IsDefinite mode t false b v → v ++ x ≡ h ++ y → Shape mode form len x y
   shape_primitive t b v x k e =
-      let p = one_header mode u t form false len (Definite (length b)) h k.header y (b ++ x) d k.is_header (sym e ∙ ap (λ z. z ++ x) k.is ∙ append_assoc k.header b x) in
+      let p = one_header mode u t form false len (Definite (length b)) h k.header y (b ++ x) d k.is_header
+      (sym e ∙ ap (λ z. z ++ x) k.is ∙ append_assoc k.header b x) in
       is_primitive b (ap (λ z. z.form) p.0) (ap (λ z. z.len) p.0) p.1
 
   shape_framed : (t : Tag) (ts : Trees) (b v x : List ℕ) → AreEncodings mode ts b → IsFramed mode t b v → v ++ x ≡ h ++ y → Shape mode form len x y
   shape_framed t ts b v x q (inl k) e =
-      let p = one_header mode u t form true len (Definite (length b)) h k.header y (b ++ x) d k.is_header (sym e ∙ ap (λ z. z ++ x) k.is ∙ append_assoc k.header b x) in
+      let p = one_header mode u t form true len (Definite (length b)) h k.header y (b ++ x) d k.is_header
+      (sym e ∙ ap (λ z. z ++ x) k.is ∙ append_assoc k.header b x) in
       is_definite ts b (ap (λ z. z.form) p.0) (ap (λ z. z.len) p.0) q p.1
   shape_framed t ts b v x q (inr k) e =
-      let p = one_header mode u t form true len Indefinite h k.header y ((b ++ k.end) ++ x) d k.is_header (sym e ∙ ap (λ z. z ++ x) k.is ∙ append_assoc k.header (b ++ k.end) x) in
+      let p = one_header mode u t form true len Indefinite h k.header y ((b ++ k.end) ++ x) d k.is_header
+      (sym e ∙ ap (λ z. z ++ x) k.is ∙ append_assoc k.header (b ++ k.end) x) in
       is_indefinite ts b k.end (ap (λ z. z.form) p.0) (ap (λ z. z.len) p.0) q k.is_end (p.1 ∙ append_assoc b k.end x)
 
   pub shape : (t : Tree) (v x : List ℕ) → IsEncoding mode t v → v ++ x ≡ h ++ y → Shape mode form len x y
@@ -216,11 +236,29 @@ pub definite_inj : (a b : ℕ) → ◌≡◌ {A = Length} (Definite a) (Definite
 definite_inj a b e = cc
 
 header_of_definite : (mode : Mode) (t : Tag) (f : Bool) (b v : List ℕ) → IsDefinite mode t f b v → HeaderOf mode v
-header_of_definite mode t f b v k = record { tag = t; form = f; len = Definite (length b); octets = k.header; body = b; is_header = k.is_header; is = k.is; fits = λ n e. (let z : length b ≡ n = definite_inj (length b) n e in omega arith) }
+header_of_definite mode t f b v k = record {
+  tag = t;
+  form = f;
+  len = Definite (length b);
+  octets = k.header;
+  body = b;
+  is_header = k.is_header;
+  is = k.is;
+  fits = λ n e. (let z : length b ≡ n = definite_inj (length b) n e in omega arith);
+}
 
 header_of_framed : (mode : Mode) (t : Tag) (b v : List ℕ) → IsFramed mode t b v → HeaderOf mode v
 header_of_framed mode t b v (inl k) = header_of_definite mode t true b v k
-header_of_framed mode t b v (inr k) = record { tag = t; form = true; len = Indefinite; octets = k.header; body = b ++ k.end; is_header = k.is_header; is = k.is; fits = λ n e. absurd (let z : ◌≡◌ {A = Length} Indefinite (Definite n) = e in cc) }
+header_of_framed mode t b v (inr k) = record {
+  tag = t;
+  form = true;
+  len = Indefinite;
+  octets = k.header;
+  body = b ++ k.end;
+  is_header = k.is_header;
+  is = k.is;
+  fits = λ n e. absurd (let z : ◌≡◌ {A = Length} Indefinite (Definite n) = e in cc);
+}
 
 pub header_of : (mode : Mode) (t : Tree) (v : List ℕ) → IsEncoding mode t v → HeaderOf mode v
 header_of mode (primitive t b) v k = header_of_definite mode t false b v k.1

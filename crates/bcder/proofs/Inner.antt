@@ -1,5 +1,6 @@
 -- What a value's content is to the content around it.
-use Rattle.std.proofs.Common.{◌≡◌, ◌≢◌, ℕ, ◌+◌, ◌-◌, ◌≤◌, Bool, true, false, List, ◌∷◌, ◌++◌, length, take, drop, refl, ap, sym, ◌∙◌, arith, length-append, append-nil, subst, inl, inr}
+use Rattle.std.proofs.Common.{◌≡◌, ◌≢◌, ℕ, ◌+◌, ◌-◌, ◌≤◌, Bool, true, false, List, ◌∷◌, ◌++◌, length, take, drop, refl}
+use Rattle.std.proofs.Common.{ap, sym, ◌∙◌, arith, length-append, append-nil, subst, inl, inr}
 use Rattle.std.proofs.lemmas.List.{take_at}
 use Rattle.std.proofs.Math.Seq.{take-append-add, drop-append-add}
 use Rattle.std.proofs.lemmas.Grind.{common_steps}
@@ -17,7 +18,8 @@ use Rattle.bcder.specs.x690.Encoding.{may_have, IsHeader, IsEncoding, AreEncodin
 use Rattle.bcder.specs.calls.Stream.{Layer, Stream, IsSound, cut, past, limited}
 use Rattle.bcder.specs.declared.decode.error.ContentError.{ContentError}
 use Rattle.bcder.specs.calls.Cause.{Cause}
-use Rattle.bcder.specs.calls.Content.{Reading, ContentForm, values, Octets, DefiniteValues, IndefiniteValues, label, Moves, MovesBy, Whole, Falls, Closes, IsDone, IsUsedUp, Advances, FitsOwed}
+use Rattle.bcder.specs.calls.Content.{Reading, ContentForm, values, Octets, DefiniteValues, IndefiniteValues, label, Moves}
+use Rattle.bcder.specs.calls.Content.{MovesBy, Whole, Falls, Closes, IsDone, IsUsedUp, Advances, FitsOwed}
 use Rattle.bcder.specs.calls.Calls.{IsFormOf, ContentOf, AnswersDone, RanOver, TakesContent, popped}
 use Rattle.bcder.specs.steps.Inside.{kind_behind, limit_inside, limit_outside, IsTaken}
 use Rattle.bcder.specs.calls.Views.{limited_stream}
@@ -81,7 +83,8 @@ module _ (c d i j : Reading) (s s' : Stream) (o l : Option ℕ) (n : ℕ) (fits 
 
   pub definite_advances : Advances c d m.passed
   definite_advances = record {
-    rest = ap (λ x. x.rest) cs ∙ ap (cut o) rest_is ∙ cut_popped o n left_is.0 m.passed s'.rest fits left_is.2 ∙ ap (λ x. m.passed ++ cut (popped o n x) s'.rest) (sym left_is.1) ∙ ap (λ x. m.passed ++ x.rest) (sym ds);
+    rest = ap (λ x. x.rest) cs ∙ ap (cut o) rest_is ∙ cut_popped o n left_is.0 m.passed s'.rest fits left_is.2
+        ∙ ap (λ x. m.passed ++ cut (popped o n x) s'.rest) (sym left_is.1) ∙ ap (λ x. m.passed ++ x.rest) (sym ds);
     owed = rw (co, do', left_is.1) (falls_popped o n left_is.0 (length m.passed) fits left_is.2);
     kept =
         ap (λ x. x.kept) ds
@@ -89,14 +92,16 @@ module _ (c d i j : Reading) (s s' : Stream) (o l : Option ℕ) (n : ℕ) (fits 
         (ap (λ x. past (popped o n x) s'.rest) left_is.1 ∙ past_popped o n left_is.0 m.passed s'.rest fits left_is.2 ∙ ap (past o) (sym rest_is))
         heads.1
         ∙ ap (λ x. x.kept) (sym cs);
-    faults = (let f : i.stream.faults ≤ j.stream.faults = m.faults in omega (arith, f, ap (λ x. x.faults) cs, ap (λ x. x.faults) ds, ap (λ x. x.faults) is, ap (λ x. x.faults) js));
+    faults = (let f : i.stream.faults ≤ j.stream.faults = m.faults in
+        omega (arith, f, ap (λ x. x.faults) cs, ap (λ x. x.faults) ds, ap (λ x. x.faults) is, ap (λ x. x.faults) js));
     kind = k;
     mode = md;
     name = nm;
   }
 
 -- content that shares the limit of the content around it
-pub indefinite_advances : (c d i j : Reading) → i.stream ≡ c.stream → i.owed ≡ c.owed → j.stream ≡ d.stream → j.owed ≡ d.owed → d.kind ≡ c.kind → d.mode ≡ c.mode → d.name ≡ c.name → (m : MovesBy i j) → Advances c d m.passed
+pub indefinite_advances : (c d i j : Reading) → i.stream ≡ c.stream → i.owed ≡ c.owed → j.stream ≡ d.stream → j.owed ≡ d.owed → d.kind ≡ c.kind
+    → d.mode ≡ c.mode → d.name ≡ c.name → (m : MovesBy i j) → Advances c d m.passed
 indefinite_advances c d i j is io js jo k md nm m = record {
   rest = ap (λ x. x.rest) (sym is) ∙ m.rest ∙ ap (λ x. m.passed ++ x.rest) js;
   owed = (let f : Falls i.owed (length m.passed) j.owed = m.owed in rw (io, jo) at f);
@@ -110,7 +115,8 @@ indefinite_advances c d i j is io js jo k md nm m = record {
 -- ---- content that is done
 
 -- content of indefinite form is at its end only by the marker
-pub closed_whole : (m : Mode) (i j : Reading) (p : List ℕ) (w : Whole m i p j) → i.state ≡ Open → Closes m i w.close j → j.state ≡ Ended → (p ≡ w.values ++ w.close) × IsEndOfContents m w.close
+pub closed_whole : (m : Mode) (i j : Reading) (p : List ℕ) (w : Whole m i p j) → i.state ≡ Open → Closes m i w.close j → j.state ≡ Ended
+    → (p ≡ w.values ++ w.close) × IsEndOfContents m w.close
 closed_whole m i j p w o (inl e) n = absurd (let x : Open ≡ Ended = sym o ∙ sym e.1 ∙ n in cc)
 closed_whole m i j p w o (inr e) n = (w.split, e.0)
 
@@ -128,7 +134,8 @@ not_ended i j m o k e = elim (m.ends e) [ inl x ↦ open_not_ended i.state o x |
 
 -- nothing is owed, so all was passed
 all_passed : (n : ℕ) (i j : Reading) (m : MovesBy i j) → i.owed ≡ Some n → j.owed ≡ Some 0 → length m.passed ≡ n
-all_passed n i j m a b = (let f : Falls (Some n) (length m.passed) (Some 0) = (let g : Falls i.owed (length m.passed) j.owed = m.owed in rw (a, b) at g) in omega arith)
+all_passed n i j m a b =
+    (let f : Falls (Some n) (length m.passed) (Some 0) = (let g : Falls i.owed (length m.passed) j.owed = m.owed in rw (a, b) at g) in omega arith)
 
 pub is_open_or : (j : Reading) → IsDone j → j.state ≢ Failed
 is_open_or j (inl e) f = (let x : Ended ≡ Failed = sym e ∙ f in cc)
@@ -168,7 +175,8 @@ no_indefinite : (m : Mode) (f : Bool) → may_have m f Indefinite ≡ true → f
 no_indefinite m false e = absurd (let x : false ≡ true = e in cc)
 no_indefinite m true e = refl
 
-module _ (md : Mode) (t : Tag) (f : Bool) (len : Length) (octets : List ℕ) (i j : Reading) (h : IsHeader md t f len octets) (s : i.state ≡ Open) (mm : i.mode ≡ md) (m : MovesBy i j) (q : IsDone j) where
+module _ (md : Mode) (t : Tag) (f : Bool) (len : Length) (octets : List ℕ) (i j : Reading) (h : IsHeader md t f len octets) (s : i.state ≡ Open)
+    (mm : i.mode ≡ md) (m : MovesBy i j) (q : IsDone j) where
   whole_here : i.kind ≢ Octets → Whole (label md j.marked) i m.passed j
   whole_here o = subst (λ x. Whole (label x j.marked) i m.passed j) mm (m.whole (is_open_or j q) o)
 
@@ -176,7 +184,8 @@ module _ (md : Mode) (t : Tag) (f : Bool) (len : Length) (octets : List ℕ) (i 
   encodes_primitive n e g k o a =
       let l : length m.passed ≡ n = all_passed n i j m o (used_up Octets j (m.kind ∙ k) q (not_ended i j m s (octets_not_indefinite i.kind k))) in
       let d : IsHeader (label md j.marked) t false (Definite (length m.passed)) octets =
-      subst (λ z. IsHeader (label md j.marked) t false z octets) (e ∙ ap (λ z. Definite z) (sym l)) (subst (λ z. IsHeader (label md j.marked) t z len octets) g (header_label md j.marked t f len octets h)) in
+      subst (λ z. IsHeader (label md j.marked) t false z octets) (e ∙ ap (λ z. Definite z) (sym l))
+      (subst (λ z. IsHeader (label md j.marked) t z len octets) g (header_label md j.marked t f len octets h)) in
       (primitive t m.passed, (AreOctets-front m.passed i.stream.rest j.stream.rest m.rest a, record { header = octets; is_header = d; is = refl }))
 
   pub encodes_definite : (n : ℕ) → len ≡ Definite n → f ≡ true → i.kind ≡ DefiniteValues → i.owed ≡ Some n → Encodes md j octets m.passed
@@ -184,17 +193,28 @@ module _ (md : Mode) (t : Tag) (f : Bool) (len : Length) (octets : List ℕ) (i 
       let w : Whole (label md j.marked) i m.passed j = whole_here (λ x. let y : DefiniteValues ≡ Octets = sym k ∙ x in cc) in
       let l : length m.passed ≡ n = all_passed n i j m o (used_up DefiniteValues j (m.kind ∙ k) q (not_ended i j m s (definite_not_indefinite i.kind k))) in
       let d : IsHeader (label md j.marked) t true (Definite (length m.passed)) octets =
-      subst (λ z. IsHeader (label md j.marked) t true z octets) (e ∙ ap (λ z. Definite z) (sym l)) (subst (λ z. IsHeader (label md j.marked) t z len octets) g (header_label md j.marked t f len octets h)) in
-      (constructed t w.trees, (m.passed, open_whole (label md j.marked) i j m.passed w (definite_not_indefinite i.kind k) w.closes, inl (record { header = octets; is_header = d; is = refl })))
+      subst (λ z. IsHeader (label md j.marked) t true z octets) (e ∙ ap (λ z. Definite z) (sym l))
+      (subst (λ z. IsHeader (label md j.marked) t z len octets) g (header_label md j.marked t f len octets h)) in (
+        constructed t w.trees,
+        (
+          m.passed,
+          open_whole (label md j.marked) i j m.passed w (definite_not_indefinite i.kind k) w.closes,
+          inl (record { header = octets; is_header = d; is = refl }),
+        ),
+      )
 
   pub encodes_indefinite : len ≡ Indefinite → i.kind ≡ IndefiniteValues → Encodes md j octets m.passed
   encodes_indefinite e k =
       let w : Whole (label md j.marked) i m.passed j = whole_here (λ x. let y : IndefiniteValues ≡ Octets = sym k ∙ x in cc) in
-      let z : (m.passed ≡ w.values ++ w.close) × IsEndOfContents (label md j.marked) w.close = closed_whole (label md j.marked) i j m.passed w s w.closes (ended_of j (m.kind ∙ k) q) in
+      let z : (m.passed ≡ w.values ++ w.close) × IsEndOfContents (label md j.marked) w.close =
+      closed_whole (label md j.marked) i j m.passed w s w.closes (ended_of j (m.kind ∙ k) q) in
       let g : f ≡ true = no_indefinite md f (subst (λ x. may_have md f x ≡ true) e h.allowed) in
       let d : IsHeader (label md j.marked) t true Indefinite octets =
-      subst (λ x. IsHeader (label md j.marked) t true x octets) e (subst (λ x. IsHeader (label md j.marked) t x len octets) g (header_label md j.marked t f len octets h)) in
-      (constructed t w.trees, (w.values, w.encodes, inr (record { header = octets; is_header = d; end = w.close; is_end = z.1; is = ap (λ x. octets ++ x) z.0 })))
+      subst (λ x. IsHeader (label md j.marked) t true x octets) e
+      (subst (λ x. IsHeader (label md j.marked) t x len octets) g (header_label md j.marked t f len octets h)) in (
+        constructed t w.trees,
+        (w.values, w.encodes, inr (record { header = octets; is_header = d; end = w.close; is_end = z.1; is = ap (λ x. octets ++ x) z.0 })),
+      )
 
 take_cut : (o : Option ℕ) (n : ℕ) (x : List ℕ) → FitsOwed (Definite n) o → take n x ≡ take n (cut o x)
 take_cut None n x f = refl
@@ -203,19 +223,24 @@ take_cut (Some l) n x f = grind (arith, common_steps)
 -- ---- the content of a header
 
 module _ {C T E : Type 0} (why : E → Cause ContentError) (view : C → Reading) (post : Tag → MutBor C → Result T E → MutBor C → Type 0) where
-  on_done : (t : Tag) (i j : Reading) (Q : Type 0) (q : IsDone j → Q) (r : Result T E) → IfOk r (λ x. AnswersDone {R = Result T E} view post t i (Ok x) j) → OnOk r Q
+  on_done : (t : Tag) (i j : Reading) (Q : Type 0) (q : IsDone j → Q) (r : Result T E)
+      → IfOk r (λ x. AnswersDone {R = Result T E} view post t i (Ok x) j) → OnOk r Q
   on_done t i j Q q (Ok x) a = q a.done
   on_done t i j Q q (Err e) a = tt
 
-  module _ (c d : Reading) (h : Header) (r : Result T E) (k : d.kind ≡ c.kind) (md : d.mode ≡ c.mode) (nm : d.name ≡ c.name) (st : d.state ≡ c.state) (mark : Bool) (mk : d.marked ≡ (c.marked || mark)) where
-    pub takes_definite : (K : ContentForm) (n : ℕ) (s s' : Stream) (o l : Option ℕ) → h.len ≡ Definite n → IsFormOf h.form (Definite n) K → c.stream ≡ limited o s → c.owed ≡ o → d.stream ≡ limited (popped o n l) s' → d.owed ≡ popped o n l → FitsOwed (Definite n) o
+  module _ (c d : Reading) (h : Header) (r : Result T E) (k : d.kind ≡ c.kind) (md : d.mode ≡ c.mode) (nm : d.name ≡ c.name) (st : d.state ≡ c.state)
+      (mark : Bool) (mk : d.marked ≡ (c.marked || mark)) where
+    pub takes_definite : (K : ContentForm) (n : ℕ) (s s' : Stream) (o l : Option ℕ) → h.len ≡ Definite n → IsFormOf h.form (Definite n) K
+        → c.stream ≡ limited o s → c.owed ≡ o → d.stream ≡ limited (popped o n l) s' → d.owed ≡ popped o n l → FitsOwed (Definite n) o
         → (ran : RanOver why view post (limited (Some n) s) (Some n) K c.mode h.tag r mark (limited l s') l)
-        → ((octets : List ℕ) → IsHeader c.mode h.tag h.form h.len octets → (mv : MovesBy ran.handed ran.left) → IsDone ran.left → Encodes c.mode ran.left octets mv.passed)
+        → ((octets : List ℕ) → IsHeader c.mode h.tag h.form h.len octets → (mv : MovesBy ran.handed ran.left) → IsDone ran.left
+        → Encodes c.mode ran.left octets mv.passed)
         → TakesContent why view post c h r d
     unfolding Moves
     takes_definite K n s s' o l hn form cs co ds do' fits ran enc = record {
       passed = ran.runs.moves.passed;
-      advances = definite_advances c d ran.handed ran.left s s' o l n fits cs co ran.runs.stream ran.runs.owed ran.runs.left_stream ran.runs.left_owed ds do' k md nm ran.runs.moves;
+      advances = definite_advances c d ran.handed ran.left s s' o l n fits cs co ran.runs.stream ran.runs.owed ran.runs.left_stream ran.runs.left_owed ds do'
+          k md nm ran.runs.moves;
       state = st;
       handed = ran.handed;
       left = ran.left;
@@ -226,7 +251,8 @@ module _ {C T E : Type 0} (why : E → Cause ContentError) (view : C → Reading
         mode = ran.runs.mode;
         marked = ran.runs.marked;
         form = subst (λ z. IsFormOf h.form z ran.handed.kind) (sym hn) (subst (λ z. IsFormOf h.form (Definite n) z) (sym ran.runs.kind) form);
-        octets = subst (λ z. ContentOf z c.owed c.stream.rest ran.handed.owed ran.handed.stream.rest) (sym hn) (ran.runs.owed, ap (λ x. x.rest) ran.runs.stream ∙ take_cut o n s.rest fits ∙ ap (λ x. take n x.rest) (sym cs));
+        octets = subst (λ z. ContentOf z c.owed c.stream.rest ran.handed.owed ran.handed.stream.rest) (sym hn)
+            (ran.runs.owed, ap (λ x. x.rest) ran.runs.stream ∙ take_cut o n s.rest fits ∙ ap (λ x. take n x.rest) (sym cs));
       };
       moves = ran.runs.moves;
       faults_handed = ap (λ x. x.faults) ran.runs.stream ∙ ap (λ x. x.faults) (sym cs);
@@ -238,7 +264,8 @@ module _ {C T E : Type 0} (why : E → Cause ContentError) (view : C → Reading
 
     pub takes_indefinite : h.len ≡ Indefinite
         → (ran : RanOver why view post c.stream c.owed IndefiniteValues c.mode h.tag r mark d.stream d.owed)
-        → ((octets : List ℕ) → IsHeader c.mode h.tag h.form h.len octets → (mv : MovesBy ran.handed ran.left) → IsDone ran.left → Encodes c.mode ran.left octets mv.passed)
+        → ((octets : List ℕ) → IsHeader c.mode h.tag h.form h.len octets → (mv : MovesBy ran.handed ran.left) → IsDone ran.left
+        → Encodes c.mode ran.left octets mv.passed)
         → TakesContent why view post c h r d
     unfolding Moves
     takes_indefinite hn ran enc = record {
@@ -254,7 +281,8 @@ module _ {C T E : Type 0} (why : E → Cause ContentError) (view : C → Reading
         mode = ran.runs.mode;
         marked = ran.runs.marked;
         form = subst (λ z. IsFormOf h.form z ran.handed.kind) (sym hn) ran.runs.kind;
-        octets = subst (λ z. ContentOf z c.owed c.stream.rest ran.handed.owed ran.handed.stream.rest) (sym hn) (ran.runs.owed, ap (λ x. x.rest) ran.runs.stream);
+        octets = subst (λ z. ContentOf z c.owed c.stream.rest ran.handed.owed ran.handed.stream.rest) (sym hn)
+            (ran.runs.owed, ap (λ x. x.rest) ran.runs.stream);
       };
       moves = ran.runs.moves;
       faults_handed = ap (λ x. x.faults) ran.runs.stream;
@@ -266,8 +294,10 @@ module _ {C T E : Type 0} (why : E → Cause ContentError) (view : C → Reading
 
     module _ {S : Type 0} (stream : S → Stream) (n : ℕ) (l0 l1 l2 l3 : LimitedSource S) (o : Option ℕ) (hn : h.len ≡ Definite n)
         (cs : c.stream ≡ limited_stream stream l0) (co : c.owed ≡ l0.limit) (oo : o ≡ l0.limit) (a1 : l1.limit ≡ Some n) (b1 : l1.source ≡ l0.source)
-        (a3 : l3.limit ≡ popped o n l2.limit) (b3 : l3.source ≡ l2.source) (ds : d.stream ≡ limited_stream stream l3) (do' : d.owed ≡ l3.limit) (fits : FitsOwed h.len l0.limit) where
-      ran_at : (K : ContentForm) → RanOver why view post (limited_stream stream l1) l1.limit K c.mode h.tag r mark (limited_stream stream l2) l2.limit → RanOver why view post (limited (Some n) (stream l0.source)) (Some n) K c.mode h.tag r mark (limited l2.limit (stream l2.source)) l2.limit
+        (a3 : l3.limit ≡ popped o n l2.limit) (b3 : l3.source ≡ l2.source) (ds : d.stream ≡ limited_stream stream l3) (do' : d.owed ≡ l3.limit)
+        (fits : FitsOwed h.len l0.limit) where
+      ran_at : (K : ContentForm) → RanOver why view post (limited_stream stream l1) l1.limit K c.mode h.tag r mark (limited_stream stream l2) l2.limit
+          → RanOver why view post (limited (Some n) (stream l0.source)) (Some n) K c.mode h.tag r mark (limited l2.limit (stream l2.source)) l2.limit
       ran_at K ran =
           subst (λ z. RanOver why view post (limited (Some n) (stream z)) (Some n) K c.mode h.tag r mark (limited_stream stream l2) l2.limit) b1
           (subst (λ z. RanOver why view post (limited z (stream l1.source)) z K c.mode h.tag r mark (limited_stream stream l2) l2.limit) a1 ran)
@@ -278,33 +308,44 @@ module _ {C T E : Type 0} (why : E → Cause ContentError) (view : C → Reading
       stream_is : d.stream ≡ limited (popped l0.limit n l2.limit) (stream l2.source)
       stream_is = ds ∙ ap (λ z. limited l3.limit (stream z)) b3 ∙ ap (λ z. limited z (stream l2.source)) limit_is
 
-      pub takes_octets : h.form ≡ false → IsSound (stream l0.source) → RanOver why view post (limited_stream stream l1) l1.limit Octets c.mode h.tag r mark (limited_stream stream l2) l2.limit → TakesContent why view post c h r d
+      pub takes_octets : h.form ≡ false → IsSound (stream l0.source)
+          → RanOver why view post (limited_stream stream l1) l1.limit Octets c.mode h.tag r mark (limited_stream stream l2) l2.limit
+          → TakesContent why view post c h r d
       takes_octets g so ran =
           let q = ran_at Octets ran in
-          takes_definite Octets n (stream l0.source) (stream l2.source) l0.limit l2.limit hn (subst (λ z. IsFormOf z (Definite n) Octets) (sym g) refl) cs co stream_is (do' ∙ limit_is) (subst (λ z. FitsOwed z l0.limit) hn fits) q
-          (λ octets e mv w. encodes_primitive c.mode h.tag h.form h.len octets q.handed q.left e q.runs.state q.runs.mode mv w n hn g q.runs.kind q.runs.owed (subst (λ z. AreOctets z.rest) (sym q.runs.stream) ((limited_sound (Some n) (stream l0.source) so).octets)))
+          takes_definite Octets n (stream l0.source) (stream l2.source) l0.limit l2.limit hn
+          (subst (λ z. IsFormOf z (Definite n) Octets) (sym g) refl) cs co stream_is (do' ∙ limit_is) (subst (λ z. FitsOwed z l0.limit) hn fits) q
+          (λ octets e mv w. encodes_primitive c.mode h.tag h.form h.len octets q.handed q.left e q.runs.state q.runs.mode mv w n hn g q.runs.kind q.runs.owed
+          (subst (λ z. AreOctets z.rest) (sym q.runs.stream) ((limited_sound (Some n) (stream l0.source) so).octets)))
 
-      pub takes_values : h.form ≡ true → RanOver why view post (limited_stream stream l1) l1.limit DefiniteValues c.mode h.tag r mark (limited_stream stream l2) l2.limit → TakesContent why view post c h r d
+      pub takes_values : h.form ≡ true
+          → RanOver why view post (limited_stream stream l1) l1.limit DefiniteValues c.mode h.tag r mark (limited_stream stream l2) l2.limit
+          → TakesContent why view post c h r d
       takes_values g ran =
           let q = ran_at DefiniteValues ran in
-          takes_definite DefiniteValues n (stream l0.source) (stream l2.source) l0.limit l2.limit hn (subst (λ z. IsFormOf z (Definite n) DefiniteValues) (sym g) refl) cs co stream_is (do' ∙ limit_is) (subst (λ z. FitsOwed z l0.limit) hn fits) q
+          takes_definite DefiniteValues n (stream l0.source) (stream l2.source) l0.limit l2.limit hn
+          (subst (λ z. IsFormOf z (Definite n) DefiniteValues) (sym g) refl) cs co stream_is (do' ∙ limit_is) (subst (λ z. FitsOwed z l0.limit) hn fits) q
           (λ octets e mv w. encodes_definite c.mode h.tag h.form h.len octets q.handed q.left e q.runs.state q.runs.mode mv w n hn g q.runs.kind q.runs.owed)
 
-    pub takes_marked : h.len ≡ Indefinite → RanOver why view post c.stream c.owed IndefiniteValues c.mode h.tag r mark d.stream d.owed → TakesContent why view post c h r d
-    takes_marked hn ran = takes_indefinite hn ran (λ octets e mv w. encodes_indefinite c.mode h.tag h.form h.len octets ran.handed ran.left e ran.runs.state ran.runs.mode mv w hn ran.runs.kind)
+    pub takes_marked : h.len ≡ Indefinite → RanOver why view post c.stream c.owed IndefiniteValues c.mode h.tag r mark d.stream d.owed
+        → TakesContent why view post c h r d
+    takes_marked hn ran = takes_indefinite hn ran
+        (λ octets e mv w. encodes_indefinite c.mode h.tag h.form h.len octets ran.handed ran.left e ran.runs.state ran.runs.mode mv w hn ran.runs.kind)
 
-    -- the same of values behind a length of either kind
+    -- values behind a length of either kind were taken
     pub values_taken : {S : Type 0} (stream : S → Stream) (len : Length) (l0 l1 l2 l3 : LimitedSource S) (o : Option ℕ) → h.len ≡ len
         → c.stream ≡ limited_stream stream l0 → c.owed ≡ l0.limit → o ≡ l0.limit → l1.limit ≡ limit_inside len l0.limit → l1.source ≡ l0.source
         → l3.limit ≡ limit_outside len o l2.limit → l3.source ≡ l2.source → d.stream ≡ limited_stream stream l3 → d.owed ≡ l3.limit → FitsOwed h.len l0.limit
-        → h.form ≡ true → RanOver why view post (limited_stream stream l1) l1.limit (values (kind_behind len)) c.mode h.tag r mark (limited_stream stream l2) l2.limit → TakesContent why view post c h r d
+        → h.form ≡ true → RanOver why view post (limited_stream stream l1) l1.limit (values (kind_behind len)) c.mode h.tag r mark
+        (limited_stream stream l2) l2.limit → TakesContent why view post c h r d
     values_taken stream (Definite n) l0 l1 l2 l3 o e cs co oo a1 b1 a3 b3 ds do' fits g ran =
         takes_values stream n l0 l1 l2 l3 o e cs co oo a1 b1 a3 b3 ds do' fits g ran
     values_taken stream Indefinite l0 l1 l2 l3 o e cs co oo a1 b1 a3 b3 ds do' fits g ran =
         let i : l1.limit ≡ c.owed = a1 ∙ sym co in
         let j : l2.limit ≡ d.owed = sym (do' ∙ a3) in
         let s : limited_stream stream l1 ≡ c.stream = ap (λ z. limited l1.limit (stream z)) b1 ∙ ap (λ z. limited z (stream l0.source)) (i ∙ co) ∙ sym cs in
-        let t : limited_stream stream l2 ≡ d.stream = ap (λ z. limited l2.limit (stream z)) (sym b3) ∙ ap (λ z. limited z (stream l3.source)) (j ∙ do') ∙ sym ds in
+        let t : limited_stream stream l2 ≡ d.stream =
+        ap (λ z. limited l2.limit (stream z)) (sym b3) ∙ ap (λ z. limited z (stream l3.source)) (j ∙ do') ∙ sym ds in
         takes_marked e
         (subst (λ z. RanOver why view post c.stream c.owed IndefiniteValues c.mode h.tag r mark z d.owed) t
         (subst (λ z. RanOver why view post c.stream c.owed IndefiniteValues c.mode h.tag r mark (limited_stream stream l2) z) j

@@ -16,7 +16,9 @@ pub negative_told : (z : ℤ) (w : List ℕ) (b : Bool) → AreOctets w → AreI
 negative_told z w b o a e = by_told z (told_by z w o a)
   where
     by_told : (x : ℤ) → Told w x → IsTrue b ↔ (x <ℤ pos 0)
-    by_told (pos n) (positive _ l s v) = let f : b ≡ false = e ∙ leads_tested w l in (λ t. absurd (let x : true ≡ false = sym t ∙ f in cc), λ l. absurd (omega (arith, ints)))
+    by_told (pos n) (positive _ l s v) =
+        let f : b ≡ false = e ∙ leads_tested w l in
+        (λ t. absurd (let x : true ≡ false = sym t ∙ f in cc), λ l. absurd (omega (arith, ints)))
     by_told (negsuc n) (negative _ l s v) = (λ _. omega (arith, ints), λ _. e ∙ leads_tested_negative w l)
 
 -- 0 has one octet

@@ -1,5 +1,6 @@
 -- The items of an iterator, so far.
-use Rattle.std.proofs.Common.{◌≡◌, ℕ, ◌+◌, List, [], ◌∷◌, ◌++◌, length, Option, None, Some, Ok, Err, refl, sym, ap, ◌∙◌, subst, inl, inr, length-append, append-nil}
+use Rattle.std.proofs.Common.{◌≡◌, ℕ, ◌+◌, List, [], ◌∷◌, ◌++◌, length, Option, None, Some, Ok, Err, refl}
+use Rattle.std.proofs.Common.{sym, ap, ◌∙◌, subst, inl, inr, length-append, append-nil}
 use Rattle.std.specs.Iterator.{Yields}
 use Rattle.bcder.specs.declared.encode.error.EncodeError.{EncodeError}
 use Rattle.bcder.specs.declared.mode.Mode.{Mode}
@@ -37,7 +38,8 @@ module _ {A : Type 0} (M : A → Meaning → Type 0) where
   each_refused [] x z e h m = inl m
   each_refused (y ∷ ys) x z e (p, q, my, each, eq) m = inr (p, my, each_refused ys x q e each m)
 
-  pub seen_next : {xs : List A} {old new : Option ℕ} (x : A) (len : ℕ) → SumSeen M xs old → TellsSize encoded_octets (M x) ⊥ (Ok len) → ((k : ℕ) → IsSum old k → IsSum new (k + len)) → SumSeen M (xs ++ x ∷ []) new
+  pub seen_next : {xs : List A} {old new : Option ℕ} (x : A) (len : ℕ) → SumSeen M xs old → TellsSize encoded_octets (M x) ⊥ (Ok len)
+      → ((k : ℕ) → IsSum old k → IsSum new (k + len)) → SumSeen M (xs ++ x ∷ []) new
   seen_next {xs} {old} {new} x len s (a, m, is) adds = record {
     seen = join s.seen a;
     each = each_next xs x s.seen a s.each m;

@@ -30,7 +30,8 @@ pub record Split (mode : Mode) (us : Trees) (v x : List ℕ) : Type 0 where
 -- values in front of a list of values cut it in two, also where they were read in BER
 pub AreEncodings-split : (mode : Mode) (us ts : Trees) (v x : List ℕ) → AreEncodings Ber us v → AreEncodings mode ts (v ++ x) → Split mode us v x
 AreEncodings-split mode no_trees ts v x h k = record { left = ts; front = h; back = subst (λ z. AreEncodings mode ts (z ++ x)) h k }
-AreEncodings-split mode (u ∷ₜ us) no_trees v x h k = absurd (let two = two_octets Ber u h.0 h.2 in omega (arith, ap length h.4, length-append h.0 h.1, ap length k, length-append v x))
+AreEncodings-split mode (u ∷ₜ us) no_trees v x h k =
+    absurd (let two = two_octets Ber u h.0 h.2 in omega (arith, ap length h.4, length-append h.0 h.1, ap length k, length-append v x))
 AreEncodings-split mode (u ∷ₜ us) (t ∷ₜ ts) v x h k =
     let e : h.0 ++ (h.1 ++ x) ≡ k.0 ++ k.1 = sym (append_assoc h.0 h.1 x) ∙ ap (λ z. z ++ x) (sym h.4) ∙ k.4 in
     let s = one_encoding Ber u t h.0 k.0 (h.1 ++ x) k.1 h.2 (IsEncoding-in_ber mode t k.0 k.2) e in
@@ -71,16 +72,20 @@ parts_of m i j w x p k a e h =
 pub parts : (s s' : Stream) (m : Mode) (i j : Reading) → HandsAll s m i j s' → j.state ≢ Failed → AreWhole m s.rest → Parts m s.rest s'.rest
 unfolding Moves
 parts s s' m i j h u a =
-    let e : s.rest ≡ h.moves.passed ++ s'.rest = ap (λ (x : Stream). x.rest) (sym h.over.stream) ∙ h.moves.rest ∙ ap (λ (x : Stream). h.moves.passed ++ x.rest) h.leaves in
+    let e : s.rest ≡ h.moves.passed ++ s'.rest =
+    ap (λ (x : Stream). x.rest) (sym h.over.stream) ∙ h.moves.rest ∙ ap (λ (x : Stream). h.moves.passed ++ x.rest) h.leaves in
     let w : Whole (label i.mode j.marked) i h.moves.passed j = h.moves.whole u (unbounded_values i h.over.kind) in
     parts_of m i j s.rest s'.rest h.moves.passed h.over.kind a e (subst (λ z. Whole (label z j.marked) i h.moves.passed j) h.over.mode w)
 
 -- a source over octets at a position is that of what is kept
-pub same_stream : (c : Kept) (w : List ℕ) (p : ℕ) → w ≡ c.octets → p ≡ c.start → ◌≡◌ {A = Stream} (record { rest = w; avail = length w; faults = 0; position = p; kept = [] }) (kept_stream c)
+pub same_stream : (c : Kept) (w : List ℕ) (p : ℕ) → w ≡ c.octets → p ≡ c.start
+    → ◌≡◌ {A = Stream} (record { rest = w; avail = length w; faults = 0; position = p; kept = [] }) (kept_stream c)
 same_stream c w p e f =
-    ap (λ (x : List ℕ). let s : Stream = record { rest = x; avail = length x; faults = 0; position = p; kept = [] } in s) e ∙ ap (λ (x : ℕ). let s : Stream = record { rest = c.octets; avail = length c.octets; faults = 0; position = x; kept = [] } in s) f
+    ap (λ (x : List ℕ). let s : Stream = record { rest = x; avail = length x; faults = 0; position = p; kept = [] } in s) e
+    ∙ ap (λ (x : ℕ). let s : Stream = record { rest = c.octets; avail = length c.octets; faults = 0; position = x; kept = [] } in s) f
 
-module _ {S T X : Type 0} (stream : S → Stream) (post : MutBor (Constructed (MutBor S)) → Result T (DecodeError X) → MutBor (Constructed (MutBor S)) → Type 0) (c : Kept) (m : Mode) (x : T) (s s' : Stream) (name : ℕ) (here : s ≡ kept_stream c) (is_mode : m ≡ c.mode) (whole : AreWhole c.mode c.octets) where
+module _ {S T X : Type 0} (stream : S → Stream) (post : MutBor (Constructed (MutBor S)) → Result T (DecodeError X) → MutBor (Constructed (MutBor S)) → Type 0)
+    (c : Kept) (m : Mode) (x : T) (s s' : Stream) (name : ℕ) (here : s ≡ kept_stream c) (is_mode : m ≡ c.mode) (whole : AreWhole c.mode c.octets) where
   decoded_parts : Decodes (of_constructed (lent stream)) post (borrowed name s) m x (borrowed name s') → Parts c.mode c.octets s'.rest
   decoded_parts h =
       let a : AreWhole m s.rest = rw (is_mode, here) whole in
@@ -91,12 +96,15 @@ module _ {S T X : Type 0} (stream : S → Stream) (post : MutBor (Constructed (M
   pub left_whole : (w : List ℕ) → s'.rest ≡ w → Decodes (of_constructed (lent stream)) post (borrowed name s) m x (borrowed name s') → AreWhole c.mode w
   left_whole w e h = let p = decoded_parts h in record { values = p.left; encode = subst (λ z. AreEncodings c.mode p.left z) e p.back }
 
-  pub front_decoded : (d : Kept) → s' ≡ kept_stream d → d.mode ≡ c.mode → Decodes (of_constructed (lent stream)) post (borrowed name s) m x (borrowed name s') → DecodesFront stream post c x d
+  pub front_decoded : (d : Kept) → s' ≡ kept_stream d → d.mode ≡ c.mode → Decodes (of_constructed (lent stream)) post (borrowed name s) m x (borrowed name s')
+      → DecodesFront stream post c x d
   front_decoded d e k h =
       let p : Parts c.mode c.octets d.octets = subst (λ w. Parts c.mode c.octets w) (ap (λ (y : Stream). y.rest) e) (decoded_parts h) in
       record {
         name = name;
-        decodes = subst (λ z. Decodes (of_constructed (lent stream)) post (borrowed name (kept_stream c)) c.mode x (borrowed name z)) e (subst (λ z. Decodes (of_constructed (lent stream)) post (borrowed name z) c.mode x (borrowed name s')) here (subst (λ z. Decodes (of_constructed (lent stream)) post (borrowed name s) z x (borrowed name s')) is_mode h));
+        decodes = subst (λ z. Decodes (of_constructed (lent stream)) post (borrowed name (kept_stream c)) c.mode x (borrowed name z)) e
+            (subst (λ z. Decodes (of_constructed (lent stream)) post (borrowed name z) c.mode x (borrowed name s')) here
+            (subst (λ z. Decodes (of_constructed (lent stream)) post (borrowed name s) z x (borrowed name s')) is_mode h));
         mode = k;
         passed = p.passed;
         left = p.left;
@@ -107,6 +115,10 @@ module _ {S T X : Type 0} (stream : S → Stream) (post : MutBor (Constructed (M
       }
 
 -- what was refused of a source over kept octets
-pub refused_at : {S T X : Type 0} (stream : S → Stream) (post : MutBor (Constructed (MutBor S)) → Result T (DecodeError X) → MutBor (Constructed (MutBor S)) → Type 0) (c : Kept) (e : DecodeError X) (s s' : Stream) → s ≡ kept_stream c → (name : ℕ) (m : Mode) → RefusesDecode cause_of (of_constructed (lent stream)) post (borrowed name s) m e (borrowed name s') → m ≡ c.mode → RefusesKept stream post c e
+pub refused_at : {S T X : Type 0} (stream : S → Stream)
+    (post : MutBor (Constructed (MutBor S)) → Result T (DecodeError X) → MutBor (Constructed (MutBor S)) → Type 0) (c : Kept) (e : DecodeError X)
+    (s s' : Stream) → s ≡ kept_stream c → (name : ℕ) (m : Mode)
+    → RefusesDecode cause_of (of_constructed (lent stream)) post (borrowed name s) m e (borrowed name s') → m ≡ c.mode → RefusesKept stream post c e
 refused_at stream post c e s s' here name m h i =
-    by_decode name s' (subst (λ z. RefusesDecode cause_of (of_constructed (lent stream)) post (borrowed name (kept_stream c)) z e (borrowed name s')) i (subst (λ z. RefusesDecode cause_of (of_constructed (lent stream)) post (borrowed name z) m e (borrowed name s')) here h))
+    by_decode name s' (subst (λ z. RefusesDecode cause_of (of_constructed (lent stream)) post (borrowed name (kept_stream c)) z e (borrowed name s')) i
+    (subst (λ z. RefusesDecode cause_of (of_constructed (lent stream)) post (borrowed name z) m e (borrowed name s')) here h))

@@ -46,11 +46,13 @@ pub use Rattle.bcder.proofs.TakenBack.{decoded_is as decoded_as_written, decoded
 -- what a primitive value of these contents octets means
 pub use Rattle.bcder.proofs.Enclosing.{primitive_given as primitive_means}
 -- a writing of what is meant; after another; that stopped before another; of the same octets; and where `?` passes on its error
-pub use Rattle.bcder.proofs.Writing.{wrote_what as wrote_what_is_meant, follows_on as wrote_after, stops as wrote_no_further, same_octets as wrote_same, passed_on as wrote_what_is_passed_on}
+pub use Rattle.bcder.proofs.Writing.{wrote_what as wrote_what_is_meant, follows_on as wrote_after, stops as wrote_no_further}
+pub use Rattle.bcder.proofs.Writing.{same_octets as wrote_same, passed_on as wrote_what_is_passed_on}
 -- a loop over parts: a front of them is written
 pub use Rattle.bcder.proofs.Joining.{WrittenSoFar}
 -- before the first; one more; not one more; all
-pub use Rattle.bcder.proofs.Joining.{written_start as written_none, written_next as written_one_more, written_failed as written_not_one_more, written_done as written_all}
+pub use Rattle.bcder.proofs.Joining.{written_start as written_none, written_next as written_one_more}
+pub use Rattle.bcder.proofs.Joining.{written_failed as written_not_one_more, written_done as written_all}
 -- ---- object identifiers
 
 -- for the octets of an identifier there may be no memory

@@ -1,5 +1,6 @@
 -- Lists of values, and the values of indefinite length that are open inside them.
-use Rattle.std.proofs.Common.{◌≡◌, ℕ, zero, suc, ◌+◌, ◌-◌, ◌<◌, ◌≤◌, Bool, true, false, List, [], ◌∷◌, length, Option, Some, None, option_map, option_and_then, refl, sym, ap, ◌∙◌, arith}
+use Rattle.std.proofs.Common.{◌≡◌, ℕ, zero, suc, ◌+◌, ◌-◌, ◌<◌, ◌≤◌, Bool, true, false, List, [], ◌∷◌, length, Option}
+use Rattle.std.proofs.Common.{Some, None, option_map, option_and_then, refl, sym, ap, ◌∙◌, arith}
 use Rattle.std.specs.Int.{from_bool}
 use Rattle.std.proofs.lemmas.List.{length-append}
 use Rattle.bcder.specs.declared.mode.Mode.{Mode}
@@ -16,15 +17,19 @@ list_ends : (mode : Mode) (marked : Bool) (w x : List ℕ) → AreOctets w → a
 unfolding after_list
 list_ends mode marked w x o e = ap (option_map (λ ts. ts.1)) (read_list_step mode marked w o) ∙ rw e refl
 
-list_goes_on : (mode : Mode) (marked : Bool) (w : List ℕ) → AreOctets w → at_end mode marked w ≡ None → after_list mode marked w ≡ option_and_then (after_list mode marked) (after_tree mode w)
+list_goes_on : (mode : Mode) (marked : Bool) (w : List ℕ) → AreOctets w → at_end mode marked w ≡ None
+    → after_list mode marked w ≡ option_and_then (after_list mode marked) (after_tree mode w)
 unfolding after_list after_tree
 list_goes_on mode marked w o e = ap (option_map (λ ts. ts.1)) (read_list_step mode marked w o) ∙ rw e (go (read_tree mode w))
   where
-    inner : (t : Tree) (r : Option (Trees × List ℕ)) → option_map (λ ts. ts.1) (option_map {U = Trees × List ℕ} (λ ts. (t ∷ₜ ts.0, ts.1)) r) ≡ option_map (λ ts. ts.1) r
+    inner : (t : Tree) (r : Option (Trees × List ℕ))
+        → option_map (λ ts. ts.1) (option_map {U = Trees × List ℕ} (λ ts. (t ∷ₜ ts.0, ts.1)) r) ≡ option_map (λ ts. ts.1) r
     inner t None = refl
     inner t (Some ts) = refl
 
-    go : (r : Option (Tree × List ℕ)) → option_map (λ ts. ts.1) (option_and_then {U = Trees × List ℕ} (λ t. option_map (λ ts. (t.0 ∷ₜ ts.0, ts.1)) (read_list mode marked t.1)) r) ≡ option_and_then (λ y. option_map (λ ts. ts.1) (read_list mode marked y)) (option_map (λ t. t.1) r)
+    go : (r : Option (Tree × List ℕ))
+        → option_map (λ ts. ts.1) (option_and_then {U = Trees × List ℕ} (λ t. option_map (λ ts. (t.0 ∷ₜ ts.0, ts.1)) (read_list mode marked t.1)) r)
+        ≡ option_and_then (λ y. option_map (λ ts. ts.1) (read_list mode marked y)) (option_map (λ t. t.1) r)
     go None = refl
     go (Some t) = inner t.0 (read_list mode marked t.1)
 
@@ -37,8 +42,10 @@ chained : (f g : List ℕ → Option (List ℕ)) (r : Option (List ℕ)) → opt
 chained f g None = refl
 chained f g (Some y) = refl
 
-ends_go_on : (mode : Mode) (n : ℕ) (w : List ℕ) → AreOctets w → at_end mode true w ≡ None → after_ends mode (suc n) w ≡ option_and_then (after_ends mode (suc n)) (after_tree mode w)
-ends_go_on mode n w o e = ap (option_and_then (after_ends mode n)) (list_goes_on mode true w o e) ∙ chained (after_ends mode n) (after_list mode true) (after_tree mode w)
+ends_go_on : (mode : Mode) (n : ℕ) (w : List ℕ) → AreOctets w → at_end mode true w ≡ None
+    → after_ends mode (suc n) w ≡ option_and_then (after_ends mode (suc n)) (after_tree mode w)
+ends_go_on mode n w o e =
+    ap (option_and_then (after_ends mode n)) (list_goes_on mode true w o e) ∙ chained (after_ends mode n) (after_list mode true) (after_tree mode w)
 
 -- what is read of all these octets is what f gives of those that are left, where so many values are open
 pub record Reads (all : Option (List ℕ)) (size : ℕ) (f : List ℕ → Option (List ℕ)) (n : ℕ) (left : List ℕ) : Type 0 where
@@ -47,7 +54,8 @@ pub record Reads (all : Option (List ℕ)) (size : ℕ) (f : List ℕ → Option
   pub same : all ≡ f left
 
 -- behind a value
-passes : (mode : Mode) (all : Option (List ℕ)) (size : ℕ) (f : List ℕ → Option (List ℕ)) (n : ℕ) (v y : List ℕ) → Reads all size f n v → f v ≡ option_and_then f (after_tree mode v) → after_tree mode v ≡ Some y → Reads all size f n y
+passes : (mode : Mode) (all : Option (List ℕ)) (size : ℕ) (f : List ℕ → Option (List ℕ)) (n : ℕ) (v y : List ℕ) → Reads all size f n v
+    → f v ≡ option_and_then f (after_tree mode v) → after_tree mode v ≡ Some y → Reads all size f n y
 passes mode all size f n v y k go e =
     let r = tree_read mode v y e in
     let s = tree_sound mode v (r.0, y) k.octets r.1 in
@@ -69,7 +77,8 @@ not_ended mode (b ∷ w) e = refl
 
 module _ (mode : Mode) (w v : List ℕ) (k : InList mode w v) where
   pub list_passes : (y : List ℕ) → 0 < length v → after_tree mode v ≡ Some y → InList mode w y
-  list_passes y s e = passes mode (after_list mode false w) (length w) (after_list mode false) 0 v y k (list_goes_on mode false v k.octets (not_ended mode v s)) e
+  list_passes y s e = passes mode (after_list mode false w) (length w) (after_list mode false) 0 v y k
+      (list_goes_on mode false v k.octets (not_ended mode v s)) e
 
   pub list_fails : 0 < length v → after_tree mode v ≡ None → after_list mode false w ≡ None
   list_fails s e = k.same ∙ list_goes_on mode false v k.octets (not_ended mode v s) ∙ rw e refl
@@ -131,7 +140,8 @@ module _ (mode : Mode) (w v : List ℕ) where
   open_passes zero k s y e t = absurd (omega arith)
   open_passes (suc n) k s y e t = passes mode (after_tree mode w) (length w) (after_ends mode (suc n)) (suc n) v y k (go_on n k e) t
 
-  pub open_goes_on : (n : ℕ) → InOpen mode w n v → 0 < n → (y : List ℕ) (b : Bool) (m : ℕ) → read_end mode v ≡ None → Leaves mode v b y → length y + 2 ≤ length v → m ≡ from_bool b → InOpen mode w (n + m) y
+  pub open_goes_on : (n : ℕ) → InOpen mode w n v → 0 < n → (y : List ℕ) (b : Bool) (m : ℕ) → read_end mode v ≡ None → Leaves mode v b y
+      → length y + 2 ≤ length v → m ≡ from_bool b → InOpen mode w (n + m) y
   open_goes_on zero k s y b m e l less is = absurd (omega arith)
   open_goes_on (suc n) k s y false m e l less is =
       let none : suc n + 0 ≡ suc n = omega arith in

@@ -1,5 +1,6 @@
 -- The steps of passing over a value with a stack of limits.
-use Rattle.std.proofs.Common.{◌≡◌, ◌⊎◌, inl, inr, ℕ, zero, suc, ◌+◌, ◌-◌, ◌*◌, ◌<◌, ◌≤◌, Bool, true, false, List, [], ◌∷◌, ◌++◌, length, take, drop, Option, Some, None, refl, sym, ap, subst, ◌∙◌, append_assoc, append-nil, arith, length-append}
+use Rattle.std.proofs.Common.{◌≡◌, ◌⊎◌, inl, inr, ℕ, zero, suc, ◌+◌, ◌-◌, ◌*◌, ◌<◌, ◌≤◌, Bool, true, false, List, [], ◌∷◌, ◌++◌, length, take, drop}
+use Rattle.std.proofs.Common.{Option, Some, None, refl, sym, ap, subst, ◌∙◌, append_assoc, append-nil, arith, length-append}
 use Rattle.std.proofs.lemmas.Bool.{cases_lt}
 use Rattle.std.proofs.lemmas.Grind.{common_steps}
 use Rattle.std.proofs.Math.Seq.{take-append-add, drop-append-add}
@@ -10,7 +11,9 @@ use Rattle.bcder.specs.declared.length.Length.TheVariants as len
 use Rattle.bcder.specs.declared.decode.content.Kind.{Kind}
 use Rattle.bcder.specs.declared.decode.content.Kind.TheVariants as kind
 use Rattle.bcder.specs.declared.decode.content.State.TheVariants.{Open}
-use Rattle.bcder.specs.steps.Stacked.{Entry, Definite, Indefinite, Reached, after_headings, lack, limit_around, unwound, restored, HasLimit, AreLimited, TopIs, is_indefinite, ends, next_to, remain, due, heading, Passes, entry_of, GoesInto, octets, values as open_values, LeavesInnermost, IsPart, PassesCalls, IsUnderWay, IsBroken}
+use Rattle.bcder.specs.steps.Stacked.{Entry, Definite, Indefinite, Reached, after_headings, lack, limit_around, unwound, restored, HasLimit}
+use Rattle.bcder.specs.steps.Stacked.{AreLimited, TopIs, is_indefinite, ends, next_to, remain, due, heading, Passes, entry_of, GoesInto, octets}
+use Rattle.bcder.specs.steps.Stacked.{values as open_values, LeavesInnermost, IsPart, PassesCalls, IsUnderWay, IsBroken}
 use Rattle.bcder.specs.x690.Identifier.{AreOctets, Tag}
 use Rattle.bcder.specs.x690.Tree.{Tree, primitive, constructed, Trees, no_trees, ◌∷ₜ◌}
 use Rattle.bcder.specs.x690.Encoding.{IsHeader, IsEncoding, Header}
@@ -18,7 +21,8 @@ use Rattle.bcder.specs.x690.Preorder.{Heading, preorder, preorders}
 use Rattle.bcder.specs.steps.Growing.{AreOpen, grown}
 use Rattle.bcder.specs.steps.Reading.{read_header, read_end, read_contents, at_end, read_list, read_tree}
 use Rattle.bcder.specs.calls.Stream.{Layer, Stream, cut, past, limit_left}
-use Rattle.bcder.specs.calls.Content.{Reading, values, Octets, Falls, FitsOwed, ContentForm, HasMarker, of_octets, of_definite, of_indefinite, of_unbounded, EndsAt, NotAtEnd}
+use Rattle.bcder.specs.calls.Content.{Reading, values, Octets, Falls, FitsOwed, ContentForm, HasMarker, of_octets}
+use Rattle.bcder.specs.calls.Content.{of_definite, of_indefinite, of_unbounded, EndsAt, NotAtEnd}
 use Rattle.bcder.specs.calls.Walking.{NoValue}
 use Rattle.bcder.specs.x690.Length.{IsEndOfContents}
 use Rattle.bcder.specs.calls.Calls.{popped}
@@ -33,7 +37,8 @@ use Rattle.bcder.specs.laws.Stands.{tree_sound}
 use Rattle.bcder.specs.laws.Moved.{Falls-refl, Falls-trans}
 use Rattle.bcder.proofs.Inner.{layer_is}
 use Rattle.bcder.proofs.Moving.{open_not_ended}
-use Rattle.bcder.proofs.Ends.{from_header, drop_front, two_calls, definite_ends, indefinite_ends, too_few, goes_on, too_long, octets_there, Restores, definite_there, definite_short, indefinite_there, FirstIs, first_heading, heads, Restores-none, Restores-all, Restores-short}
+use Rattle.bcder.proofs.Ends.{from_header, drop_front, two_calls, definite_ends, indefinite_ends, too_few, goes_on, too_long, octets_there, Restores}
+use Rattle.bcder.proofs.Ends.{definite_there, definite_short, indefinite_there, FirstIs, first_heading, heads, Restores-none, Restores-all, Restores-short}
 use Rattle.bcder.proofs.Growing.{preorders-grown, AreOpen-grown, AreOpen-new}
 
 -- ---- limits
@@ -96,7 +101,8 @@ lack_falls (Some u) None w r f = absurd (f refl)
 lack_falls (Some u) (Some v) w r f = omega (arith, f, length-append w r)
 
 -- what was passed up to a limit was passed of the source
-pub source_passes : (t v : Stream) (p q : Option ℕ) (w : List ℕ) → cut p t.rest ≡ w ++ cut q v.rest → ◌≡◌ {A = List Layer} (past q v.rest ∷ v.kept) (past p t.rest ∷ t.kept) → Passes t w v
+pub source_passes : (t v : Stream) (p q : Option ℕ) (w : List ℕ) → cut p t.rest ≡ w ++ cut q v.rest
+    → ◌≡◌ {A = List Layer} (past q v.rest ∷ v.kept) (past p t.rest ∷ t.kept) → Passes t w v
 source_passes t v p q w e k = record { rest = sym (rest_told_behind p q t.rest v.rest w (sym e) (first_kept k)); kept = rest_kept k }
 
 pub passes_trans : (s t v : Stream) (a b : List ℕ) → Passes s a t → Passes t b v → Passes s (a ++ b) v
@@ -110,7 +116,8 @@ passes_nothing s t e k = record { rest = sym e; kept = k }
 later : (w b c : List ℕ) → IsEndOf b w → IsEndOf c b → IsEndOf c w
 later w b c g h = (g.0 ++ h.0, g.1 ∙ ap (λ l. g.0 ++ l) h.1 ∙ sym (append_assoc g.0 h.0 c))
 
-stand_push : (mode : Mode) (hs : List Heading) (h : Heading) (w v x : List ℕ) → HeadersStand mode hs w v → HeaderStands mode h v x → HeadersStand mode (hs ++ h ∷ []) w x
+stand_push : (mode : Mode) (hs : List Heading) (h : Heading) (w v x : List ℕ) → HeadersStand mode hs w v → HeaderStands mode h v x
+    → HeadersStand mode (hs ++ h ∷ []) w x
 stand_push mode [] h w v x s k = (v, x, s, k, ([], refl))
 stand_push mode (g ∷ hs) h w v x s k = (s.0, s.1, s.2, s.3, stand_push mode hs h s.1 v x s.4 k)
 
@@ -121,7 +128,8 @@ stand_later mode (h ∷ hs) w b c s e = (s.0, s.1, s.2, s.3, stand_later mode hs
 pub calls_none : (mode : Mode) (s t : Stream) (o : Option ℕ) → t.rest ≡ s.rest → t.kept ≡ s.kept → PassesCalls mode s o [] t o
 calls_none mode s t o e k = record { passed = []; passes = passes_nothing s t e k; falls = Falls-refl o; twice = omega arith; stand = ([], ap (cut o) (sym e)) }
 
-module _ (mode : Mode) (s : Stream) (o : Option ℕ) (calls : List Heading) (t v : Stream) (p q : Option ℕ) (w : List ℕ) (c : PassesCalls mode s o calls t p) (g : Passes t w v) (f : Falls p (length w) q) where
+module _ (mode : Mode) (s : Stream) (o : Option ℕ) (calls : List Heading) (t v : Stream) (p q : Option ℕ) (w : List ℕ) (c : PassesCalls mode s o calls t p)
+    (g : Passes t w v) (f : Falls p (length w) q) where
   more_falls : Falls o (length (c.passed ++ w)) q
   more_falls = subst (λ n. Falls o n q) (sym (length-append c.passed w)) (Falls-trans o p q (length c.passed) (length w) c.falls f)
 
@@ -144,8 +152,10 @@ module _ (mode : Mode) (s : Stream) (o : Option ℕ) (calls : List Heading) (t v
     passed = c.passed ++ w;
     passes = passes_trans s t v c.passed w c.passes g;
     falls = more_falls;
-    twice = (let y : 2 * length calls ≤ length c.passed = c.twice in let z : 2 ≤ length w = header_size mode h.tag h.form h.len w i in omega (arith, length-append c.passed w, length-append calls (heading h n ∷ [])));
-    stand = stand_push mode calls (heading h n) (cut o s.rest) (cut p t.rest) (cut q v.rest) c.stand (record { len = h.len; header = w; is_header = i; is = more_cut });
+    twice = (let y : 2 * length calls ≤ length c.passed = c.twice in let z : 2 ≤ length w = header_size mode h.tag h.form h.len w i in
+        omega (arith, length-append c.passed w, length-append calls (heading h n ∷ [])));
+    stand = stand_push mode calls (heading h n) (cut o s.rest) (cut p t.rest) (cut q v.rest) c.stand
+        (record { len = h.len; header = w; is_header = i; is = more_cut });
   }
 
 -- ---- a tree for the calls
@@ -158,15 +168,18 @@ still_one : (k : ℕ) (t x : Tree) → AreOpen (suc k) (t ∷ₜ no_trees) → (
 still_one k (primitive t contents) x h = absurd h
 still_one k (constructed t ts) x h = (constructed t (grown k ts x), refl)
 
-grown_part : (k j : ℕ) (t x : Tree) (done calls : List Heading) → AreOpen (suc k) (t ∷ₜ no_trees) → AreOpen j (grown (suc k) (t ∷ₜ no_trees) x) → preorder t 0 ≡ done → calls ≡ done ++ preorder x (suc k) → IsPart j calls
+grown_part : (k j : ℕ) (t x : Tree) (done calls : List Heading) → AreOpen (suc k) (t ∷ₜ no_trees) → AreOpen j (grown (suc k) (t ∷ₜ no_trees) x)
+    → preorder t 0 ≡ done → calls ≡ done ++ preorder x (suc k) → IsPart j calls
 grown_part k j t x done calls o p e is =
     let one = still_one k t x o in
-    let walk : preorders (grown (suc k) (t ∷ₜ no_trees) x) 0 ≡ preorders (t ∷ₜ no_trees) 0 ++ preorder x (0 + suc k) = preorders-grown (suc k) (t ∷ₜ no_trees) x 0 o in
+    let walk : preorders (grown (suc k) (t ∷ₜ no_trees) x) 0 ≡ preorders (t ∷ₜ no_trees) 0 ++ preorder x (0 + suc k) =
+    preorders-grown (suc k) (t ∷ₜ no_trees) x 0 o in
     let z : 0 + suc k ≡ suc k = omega arith in
     record {
       tree = one.0;
       opened = subst (AreOpen j) one.1 p;
-      are = sym (append-nil (preorder one.0 0)) ∙ sym (ap (λ ts. preorders ts 0) one.1) ∙ walk ∙ ap (λ n. preorders (t ∷ₜ no_trees) 0 ++ preorder x n) z ∙ ap (λ l. l ++ preorder x (suc k)) (append-nil (preorder t 0) ∙ e) ∙ sym is;
+      are = sym (append-nil (preorder one.0 0)) ∙ sym (ap (λ ts. preorders ts 0) one.1) ∙ walk ∙ ap (λ n. preorders (t ∷ₜ no_trees) 0 ++ preorder x n) z
+          ∙ ap (λ l. l ++ preorder x (suc k)) (append-nil (preorder t 0) ∙ e) ∙ sym is;
     }
 
 part_primitive : (k : ℕ) (done : List Heading) (t : Tag) → IsPartly k done → IsPart k (done ++ record { tag = t; constructed = false; depth = k } ∷ [])
@@ -174,7 +187,8 @@ unfolding IsPartly
 part_primitive k done t (inl h) = rw (h.0, h.1) record { tree = primitive t []; opened = tt; are = refl }
 part_primitive zero done t (inr h) = absurd (let l = h.0 in omega arith)
 part_primitive (suc k) done t (inr h) =
-    grown_part k (suc k) h.1.tree (primitive t []) done _ h.1.opened (AreOpen-grown (suc k) (suc k) (h.1.tree ∷ₜ no_trees) (primitive t []) (omega arith) h.1.opened) h.1.are refl
+    grown_part k (suc k) h.1.tree (primitive t []) done _ h.1.opened
+    (AreOpen-grown (suc k) (suc k) (h.1.tree ∷ₜ no_trees) (primitive t []) (omega arith) h.1.opened) h.1.are refl
 
 part_constructed : (k : ℕ) (done : List Heading) (t : Tag) → IsPartly k done → IsPart (suc k) (done ++ record { tag = t; constructed = true; depth = k } ∷ [])
 unfolding IsPartly
@@ -209,7 +223,9 @@ partly k done l p = inr (l, p)
 
 -- ---- into the content of a header
 
-into_octets : (mode : Mode) (es : List Entry) (tag : Tag) (n : ℕ) (t v : Stream) (p : Option ℕ) → FitsOwed (len.Definite n) p → n ≤ length t.rest → v.rest ≡ drop n t.rest → due mode es (record { tag = tag; form = false; len = len.Definite n }) p t.rest ≡ after_headings (record { tag = tag; constructed = false; depth = length es } ∷ []) (remain mode es (popped p n (Some 0)) v.rest)
+into_octets : (mode : Mode) (es : List Entry) (tag : Tag) (n : ℕ) (t v : Stream) (p : Option ℕ) → FitsOwed (len.Definite n) p → n ≤ length t.rest
+    → v.rest ≡ drop n t.rest → due mode es (record { tag = tag; form = false; len = len.Definite n }) p t.rest
+    ≡ after_headings (record { tag = tag; constructed = false; depth = length es } ∷ []) (remain mode es (popped p n (Some 0)) v.rest)
 into_octets mode es tag n t v p f l e =
     let w : List ℕ = take n t.rest in
     let k : length w ≡ n = grind (arith, common_steps) in
@@ -226,7 +242,8 @@ into_octets mode es tag n t v p f l e =
     ∙ ap (λ x. after_headings (record { tag = tag; constructed = false; depth = length es } ∷ []) (ends mode es (cut q v.rest) x (past p t.rest).octets)) b
     ∙ ap (λ x. after_headings (record { tag = tag; constructed = false; depth = length es } ∷ []) (ends mode es (cut q v.rest) (lack q v.rest) x.octets)) a
 
-restores : (p : Option ℕ) (n : ℕ) (w : List ℕ) → FitsOwed (len.Definite n) p → n ≤ length (cut p w) → Restores (limit_left p n) (drop n (cut p w)) (past p w).octets (lack p w)
+restores : (p : Option ℕ) (n : ℕ) (w : List ℕ) → FitsOwed (len.Definite n) p → n ≤ length (cut p w)
+    → Restores (limit_left p n) (drop n (cut p w)) (past p w).octets (lack p w)
 restores None n w f l = Restores-none (drop n w)
 restores (Some k) n w f l = elim (cases_lt (length w) k) [
   | inl x ↦ (let e : drop k w ≡ [] = drop_all k w (omega arith) in
@@ -238,7 +255,9 @@ restores (Some k) n w f l = elim (cases_lt (length w) k) [
       rw e (Restores-all (drop n (take k w)) (drop k w) (k - n) g))
 ]
 
-into_definite : (mode : Mode) (es : List Entry) (tag : Tag) (n : ℕ) (w : List ℕ) (p : Option ℕ) → FitsOwed (len.Definite n) p → due mode es (record { tag = tag; form = true; len = len.Definite n }) p w ≡ after_headings (record { tag = tag; constructed = true; depth = length es } ∷ []) (remain mode (Definite (limit_left p n) ∷ es) (Some n) w)
+into_definite : (mode : Mode) (es : List Entry) (tag : Tag) (n : ℕ) (w : List ℕ) (p : Option ℕ) → FitsOwed (len.Definite n) p
+    → due mode es (record { tag = tag; form = true; len = len.Definite n }) p w
+    ≡ after_headings (record { tag = tag; constructed = true; depth = length es } ∷ []) (remain mode (Definite (limit_left p n) ∷ es) (Some n) w)
 into_definite mode es tag n w p f = elim (cases_lt (length (cut p w)) n) [
   | inl x ↦ definite_short mode es tag n (take n w) (cut p w) (past p w).octets (drop n w) (lack p w) (n - length w) (limit_left p n) x (few p f x)
   | inr x ↦ (let z : List ℕ = cut p w in
@@ -248,16 +267,20 @@ into_definite mode es tag n w p f = elim (cases_lt (length (cut p w)) n) [
       let b : drop n z ++ y ≡ drop n w = sym (drop-append-le n z y x) ∙ ap (drop n) is in
       let c : 0 ≡ n - length w = omega (arith, ap length is, length-append z y) in
       definite_there mode es tag n z y (lack p w) (limit_left p n) x (restores p n w f x)
-      ∙ ap (λ u. after_headings (record { tag = tag; constructed = true; depth = length es } ∷ []) (ends mode (Definite (limit_left p n) ∷ es) u 0 (drop n z ++ y))) a
-      ∙ ap (λ u. after_headings (record { tag = tag; constructed = true; depth = length es } ∷ []) (ends mode (Definite (limit_left p n) ∷ es) (take n w) u (drop n z ++ y))) c
-      ∙ ap (λ u. after_headings (record { tag = tag; constructed = true; depth = length es } ∷ []) (ends mode (Definite (limit_left p n) ∷ es) (take n w) (n - length w) u)) b)
+      ∙ ap (λ u. after_headings (record { tag = tag; constructed = true; depth = length es } ∷ [])
+      (ends mode (Definite (limit_left p n) ∷ es) u 0 (drop n z ++ y))) a
+      ∙ ap (λ u. after_headings (record { tag = tag; constructed = true; depth = length es } ∷ [])
+      (ends mode (Definite (limit_left p n) ∷ es) (take n w) u (drop n z ++ y))) c
+      ∙ ap (λ u. after_headings (record { tag = tag; constructed = true; depth = length es } ∷ [])
+      (ends mode (Definite (limit_left p n) ∷ es) (take n w) (n - length w) u)) b)
 ]
   where
     few : (p : Option ℕ) → FitsOwed (len.Definite n) p → length (cut p w) < n → 0 < n - length w
     few None f x = omega arith
     few (Some k) f x = (let y : length (take k w) < n = x in grind (arith, common_steps))
 
-pub into : (mode : Mode) (h : Header) (es fs : List Entry) (t v : Stream) (p q : Option ℕ) → FitsOwed h.len p → GoesInto h es t p fs v q → due mode es h p t.rest ≡ after_headings (heading h (length es) ∷ []) (remain mode fs q v.rest)
+pub into : (mode : Mode) (h : Header) (es fs : List Entry) (t v : Stream) (p q : Option ℕ) → FitsOwed h.len p → GoesInto h es t p fs v q
+    → due mode es h p t.rest ≡ after_headings (heading h (length es) ∷ []) (remain mode fs q v.rest)
 into mode h es fs t v p q f (octets n a b l e r k i) = rw (a, b, e, i) (into_octets mode es h.tag n t v p (rw b at f) l r)
 into mode h es fs t v p q f (open_values a e k i) = go h.len refl
   where
@@ -270,14 +293,16 @@ unwound_opened (len.Definite n) es None f = refl
 unwound_opened (len.Definite n) es (Some k) f = ap (λ m. unwound es (Some m)) (let e : k - n + n ≡ k = omega arith in e)
 unwound_opened len.Indefinite es p f = refl
 
-module _ (mode : Mode) (s : Stream) (o : Option ℕ) (calls : List Heading) (h : Header) (es fs : List Entry) (t v : Stream) (p q : Option ℕ) (f : FitsOwed h.len p) where
+module _ (mode : Mode) (s : Stream) (o : Option ℕ) (calls : List Heading) (h : Header) (es fs : List Entry) (t v : Stream) (p q : Option ℕ)
+    (f : FitsOwed h.len p) where
   gone_calls : GoesInto h es t p fs v q → PassesCalls mode s o calls t (unwound es p) → PassesCalls mode s o calls v (unwound fs q)
   gone_calls (octets n a b l e r k i) c =
       let w : List ℕ = take n t.rest in
       let j : length w ≡ n = grind (arith, common_steps) in
       let falls : Falls p (length w) (popped p n (Some 0)) = subst (λ m. Falls p m (popped p n (Some 0))) (sym j) (falls_popped p n (rw b at f)) in
       let g : Passes t w v = record { rest = sym (take-append-drop n t.rest) ∙ ap (λ z. take n t.rest ++ z) (sym r); kept = k } in
-      rw (e, i) (calls_on mode s o calls t v (unwound es p) (unwound es (popped p n (Some 0))) w c g (falls_unwound es p (popped p n (Some 0)) (length w) falls))
+      rw (e, i)
+      (calls_on mode s o calls t v (unwound es p) (unwound es (popped p n (Some 0))) w c g (falls_unwound es p (popped p n (Some 0)) (length w) falls))
   gone_calls (open_values a e k i) c = rw (e, i, k, unwound_opened h.len es p f) c
 
   gone_limits : GoesInto h es t p fs v q → AreLimited es p → AreLimited fs q
@@ -291,7 +316,8 @@ module _ (mode : Mode) (s : Stream) (o : Option ℕ) (calls : List Heading) (h :
 -- ---- what the outcome tells of the calls
 
 -- what is still to come of no open value is what was read
-pub front_of : (calls : List Heading) (r : Reached) (u : Tree) (x : List ℕ) (m : ℕ) (y : List ℕ) (mode : Mode) → next_to mode [] (Some (u, x)) m y ≡ after_headings calls r → (more : List Heading) × (preorder u 0 ≡ calls ++ more)
+pub front_of : (calls : List Heading) (r : Reached) (u : Tree) (x : List ℕ) (m : ℕ) (y : List ℕ) (mode : Mode)
+    → next_to mode [] (Some (u, x)) m y ≡ after_headings calls r → (more : List Heading) × (preorder u 0 ≡ calls ++ more)
 unfolding ends
 front_of calls None u x m y mode e = absurd (none_is _ (sym e))
 front_of calls (Some p) u x m y mode e = (p.0, sym (append-nil (preorder u 0)) ∙ ap (λ q. q.0) (some_inj _ _ e))
@@ -301,7 +327,8 @@ unfolding ends
 nothing_read mode None m y e = refl
 nothing_read mode (Some u) m y e = absurd (none_is _ (sym e))
 
-pub read_whole : (mode : Mode) (r : Option (Tree × List ℕ)) (m k : ℕ) (x y z : List ℕ) (calls : List Heading) → next_to mode [] r m y ≡ after_headings calls (ends mode [] x k z) → (u : Tree) × (r ≡ Some (u, x)) × (preorder u 0 ≡ calls)
+pub read_whole : (mode : Mode) (r : Option (Tree × List ℕ)) (m k : ℕ) (x y z : List ℕ) (calls : List Heading)
+    → next_to mode [] r m y ≡ after_headings calls (ends mode [] x k z) → (u : Tree) × (r ≡ Some (u, x)) × (preorder u 0 ≡ calls)
 unfolding ends
 read_whole mode None m k x y z calls e = absurd (none_is _ e)
 read_whole mode (Some u) m k x y z calls e =
@@ -310,7 +337,8 @@ read_whole mode (Some u) m k x y z calls e =
 
 -- ---- the first header
 
-pub first_gone : (mode : Mode) (h : Header) (s t : Stream) (o p : Option ℕ) (es : List Entry) → FitsOwed h.len o → GoesInto h [] s o es t p → IsUnderWay mode h s o [] es t p
+pub first_gone : (mode : Mode) (h : Header) (s t : Stream) (o p : Option ℕ) (es : List Entry) → FitsOwed h.len o → GoesInto h [] s o es t p
+    → IsUnderWay mode h s o [] es t p
 first_gone mode h s t o p es f g = record {
   outcome = into mode h [] es s t o p f g;
   passes = gone_calls mode s o [] h [] es s t o p f g (calls_none mode s s o refl refl);
@@ -333,22 +361,28 @@ not_at_end mode true w h = rw h.is refl
 not_at_end mode false w h = rw h.is refl
 
 header_begins : (mode : Mode) (h : Header) (w x : List ℕ) → IsHeader mode h.tag h.form h.len w → BeginsValue (w ++ x)
-header_begins mode h w x i = subst BeginsValue (sym (ap (λ l. l ++ x) i.is ∙ append_assoc _ i.length_octets x)) (BeginsValue-identifier h.tag h.form (i.length_octets ++ x) i.is_value_tag)
+header_begins mode h w x i = subst BeginsValue (sym (ap (λ l. l ++ x) i.is ∙ append_assoc _ i.length_octets x))
+    (BeginsValue-identifier h.tag h.form (i.length_octets ++ x) i.is_value_tag)
 
 -- the header k was passed, while these values are open
-pub record IsMet (mode : Mode) (h : Header) (s : Stream) (o : Option ℕ) (calls : List Heading) (es : List Entry) (k : Header) (t : Stream) (p : Option ℕ) : Type 0 where
+pub record IsMet (mode : Mode) (h : Header) (s : Stream) (o : Option ℕ) (calls : List Heading) (es : List Entry) (k : Header) (t : Stream)
+    (p : Option ℕ) : Type 0 where
   pub outcome : due mode [] h o s.rest ≡ after_headings (heading h 0 ∷ calls) (due mode es k p t.rest)
   pub passes : PassesCalls mode s o (calls ++ heading k (length es) ∷ []) t (unwound es p)
   pub part : IsPart (length es) (heading h 0 ∷ calls)
   pub limits : AreLimited es p
   pub inside : 1 ≤ length es
 
-pub met : (mode : Mode) (h : Header) (s : Stream) (o : Option ℕ) (calls : List Heading) (es : List Entry) (k : Header) (t v : Stream) (p q : Option ℕ) (w : List ℕ) → IsUnderWay mode h s o calls es t p → 1 ≤ length es → AreOctets (cut p t.rest) → cut p t.rest ≡ w ++ cut q v.rest → ◌≡◌ {A = List Layer} (past q v.rest ∷ v.kept) (past p t.rest ∷ t.kept) → Falls p (length w) q → IsHeader mode k.tag k.form k.len w → IsMet mode h s o calls es k v q
+pub met : (mode : Mode) (h : Header) (s : Stream) (o : Option ℕ) (calls : List Heading) (es : List Entry) (k : Header) (t v : Stream) (p q : Option ℕ)
+    (w : List ℕ) → IsUnderWay mode h s o calls es t p → 1 ≤ length es → AreOctets (cut p t.rest) → cut p t.rest ≡ w ++ cut q v.rest → ◌≡◌ {A = List Layer}
+    (past q v.rest ∷ v.kept) (past p t.rest ∷ t.kept) → Falls p (length w) q → IsHeader mode k.tag k.form k.len w → IsMet mode h s o calls es k v q
 met mode h s o calls [] k t v p q w u l a e j f i = absurd (omega arith)
 met mode h s o calls (top ∷ es) k t v p q w u l a e j f i =
     let g : Passes t w v = source_passes t v p q w e j in
-    let none : at_end mode (is_indefinite top) (cut p t.rest) ≡ None = subst (λ x. at_end mode (is_indefinite top) x ≡ None) (sym e) (not_at_end mode (is_indefinite top) (w ++ cut q v.rest) (header_begins mode k w (cut q v.rest) i)) in
-    let read : read_header mode (cut p t.rest) ≡ Some (k, cut q v.rest) = ap (read_header mode) e ∙ header_complete mode k.tag k.form k.len w (cut q v.rest) i in
+    let none : at_end mode (is_indefinite top) (cut p t.rest) ≡ None = subst (λ x. at_end mode (is_indefinite top) x ≡ None) (sym e)
+    (not_at_end mode (is_indefinite top) (w ++ cut q v.rest) (header_begins mode k w (cut q v.rest) i)) in
+    let read : read_header mode (cut p t.rest) ≡ Some (k, cut q v.rest) =
+    ap (read_header mode) e ∙ header_complete mode k.tag k.form k.len w (cut q v.rest) i in
     let b : lack p t.rest ≡ lack q v.rest = ap (lack p) g.rest ∙ lack_falls p q w v.rest f in
     let c : past p t.rest ≡ past q v.rest = sym (first_kept j) in
     let r : remain mode (top ∷ es) p t.rest ≡ due mode (top ∷ es) k q v.rest =
@@ -359,32 +393,42 @@ met mode h s o calls (top ∷ es) k t v p q w u l a e j f i =
     in
     record {
       outcome = u.outcome ∙ ap (after_headings (heading h 0 ∷ calls)) r;
-      passes = calls_met mode s o calls t v (unwound (top ∷ es) p) (unwound (top ∷ es) q) w u.passes g (falls_unwound (top ∷ es) p q (length w) f) k (length (top ∷ es)) i;
+      passes = calls_met mode s o calls t v (unwound (top ∷ es) p) (unwound (top ∷ es) q) w u.passes g (falls_unwound (top ∷ es) p q (length w) f) k
+          (length (top ∷ es)) i;
       part = u.part;
       limits = limited_falls (top ∷ es) p q (length w) f u.limits;
       inside = l;
     }
 
-module _ (mode : Mode) (h : Header) (s : Stream) (o : Option ℕ) (calls : List Heading) (es : List Entry) (k : Header) (t : Stream) (p : Option ℕ) (m : IsMet mode h s o calls es k t p) where
-  pub met_gone : (fs : List Entry) (v : Stream) (q : Option ℕ) → FitsOwed k.len p → GoesInto k es t p fs v q → IsUnderWay mode h s o (calls ++ heading k (length es) ∷ []) fs v q
+module _ (mode : Mode) (h : Header) (s : Stream) (o : Option ℕ) (calls : List Heading) (es : List Entry) (k : Header) (t : Stream) (p : Option ℕ)
+    (m : IsMet mode h s o calls es k t p) where
+  pub met_gone : (fs : List Entry) (v : Stream) (q : Option ℕ) → FitsOwed k.len p → GoesInto k es t p fs v q
+      → IsUnderWay mode h s o (calls ++ heading k (length es) ∷ []) fs v q
   met_gone fs v q f g = record {
-    outcome = m.outcome ∙ ap (after_headings (heading h 0 ∷ calls)) (into mode k es fs t v p q f g) ∙ two_calls (heading h 0 ∷ calls) (heading k (length es) ∷ []) (remain mode fs q v.rest);
+    outcome = m.outcome ∙ ap (after_headings (heading h 0 ∷ calls)) (into mode k es fs t v p q f g)
+        ∙ two_calls (heading h 0 ∷ calls) (heading k (length es) ∷ []) (remain mode fs q v.rest);
     passes = gone_calls mode s o (calls ++ heading k (length es) ∷ []) k es fs t v p q f g m.passes;
     part = gone_part mode s o calls k es fs t v p q f g (heading h 0 ∷ calls) (partly (length es) (heading h 0 ∷ calls) m.inside m.part);
     limits = gone_limits mode s o calls k es fs t v p q f g m.limits;
   }
 
-  met_one : (u : Tree) (x : List ℕ) → read_contents (read_list mode) h.tag h.form h.len (cut o s.rest) ≡ Some (u, x) → (more : List Heading) × (preorder u 0 ≡ heading h 0 ∷ ((calls ++ heading k (length es) ∷ []) ++ more))
+  met_one : (u : Tree) (x : List ℕ) → read_contents (read_list mode) h.tag h.form h.len (cut o s.rest) ≡ Some (u, x)
+      → (more : List Heading) × (preorder u 0 ≡ heading h 0 ∷ ((calls ++ heading k (length es) ∷ []) ++ more))
   met_one u x r =
-      let n = heads mode es (heading k (length es)) (read_contents (read_list mode) k.tag k.form k.len (cut p t.rest)) (past p t.rest).octets (lack p t.rest) (first_heading (read_list mode) k.tag k.form k.len (cut p t.rest) (length es)) in
+      let n = heads mode es (heading k (length es)) (read_contents (read_list mode) k.tag k.form k.len (cut p t.rest)) (past p t.rest).octets (lack p t.rest)
+      (first_heading (read_list mode) k.tag k.form k.len (cut p t.rest) (length es)) in
       front_of (heading h 0 ∷ (calls ++ heading k (length es) ∷ [])) n.0 u x (lack o s.rest) (past o s.rest).octets mode
-      (sym (ap (λ y. next_to mode [] y (lack o s.rest) (past o s.rest).octets) r) ∙ m.outcome ∙ ap (after_headings (heading h 0 ∷ calls)) n.1 ∙ two_calls (heading h 0 ∷ calls) (heading k (length es) ∷ []) n.0)
+      (sym (ap (λ y. next_to mode [] y (lack o s.rest) (past o s.rest).octets) r) ∙ m.outcome ∙ ap (after_headings (heading h 0 ∷ calls)) n.1
+      ∙ two_calls (heading h 0 ∷ calls) (heading k (length es) ∷ []) n.0)
 
-  pub met_broken : (v : Stream) (q : Option ℕ) → v.rest ≡ t.rest → v.kept ≡ t.kept → q ≡ unwound es p → IsBroken mode h s o (calls ++ heading k (length es) ∷ []) v q
+  pub met_broken : (v : Stream) (q : Option ℕ) → v.rest ≡ t.rest → v.kept ≡ t.kept → q ≡ unwound es p
+      → IsBroken mode h s o (calls ++ heading k (length es) ∷ []) v q
   met_broken v q e j i = record {
-    some = (let u = some_tree (length es) (heading h 0 ∷ calls) k (partly (length es) (heading h 0 ∷ calls) m.inside m.part) in (u.0, [], u.1 ∙ ap (λ l. heading h 0 ∷ l) (sym (append-nil (calls ++ heading k (length es) ∷ [])))));
+    some = (let u = some_tree (length es) (heading h 0 ∷ calls) k (partly (length es) (heading h 0 ∷ calls) m.inside m.part) in
+        (u.0, [], u.1 ∙ ap (λ l. heading h 0 ∷ l) (sym (append-nil (calls ++ heading k (length es) ∷ [])))));
     one = met_one;
-    passes = rw i (calls_on mode s o (calls ++ heading k (length es) ∷ []) t v (unwound es p) (unwound es p) [] m.passes (passes_nothing t v e j) (Falls-refl (unwound es p)));
+    passes = rw i (calls_on mode s o (calls ++ heading k (length es) ∷ []) t v (unwound es p) (unwound es p) [] m.passes (passes_nothing t v e j)
+        (Falls-refl (unwound es p)));
   }
 
 -- ---- the end of the innermost value
@@ -396,13 +440,16 @@ kind_is : (j k : Kind) → ◌≡◌ {A = ContentForm} (values j) (values k) →
 kind_is j k e = cc
 
 -- what remains is what remains without it
-module _ (mode : Mode) (es : List Entry) (t v : Stream) (p q : Option ℕ) (w : List ℕ) (g : Passes t w v) (f : Falls p (length w) q) (l : past q v.rest ≡ past p t.rest) where
-  definite_left : (b : Option ℕ) → p ≡ Some 0 → (remain mode (Definite b ∷ es) p t.rest ≡ remain mode es b v.rest) × (unwound (Definite b ∷ es) q ≡ unwound es b)
+module _ (mode : Mode) (es : List Entry) (t v : Stream) (p q : Option ℕ) (w : List ℕ) (g : Passes t w v) (f : Falls p (length w) q)
+    (l : past q v.rest ≡ past p t.rest) where
+  definite_left : (b : Option ℕ) → p ≡ Some 0
+      → (remain mode (Definite b ∷ es) p t.rest ≡ remain mode es b v.rest) × (unwound (Definite b ∷ es) q ≡ unwound es b)
   definite_left b e =
       let n = ended q (subst (λ x. Falls x (length w) q) e f) in
       let same : t.rest ≡ v.rest = g.rest ∙ ap (λ x. x ++ v.rest) (empty w n.0) in
       let z : 0 - length t.rest ≡ 0 = omega arith in (
-        ap (λ x. remain mode (Definite b ∷ es) x t.rest) e ∙ ap (λ m. ends mode (Definite b ∷ es) [] m t.rest) z ∙ definite_ends mode b es t.rest ∙ ap (remain mode es b) same,
+        ap (λ x. remain mode (Definite b ∷ es) x t.rest) e ∙ ap (λ m. ends mode (Definite b ∷ es) [] m t.rest) z ∙ definite_ends mode b es t.rest
+            ∙ ap (remain mode es b) same,
         ap (λ x. unwound es (limit_around b x)) n.1 ∙ ap (unwound es) (back b),
       )
     where
@@ -420,61 +467,87 @@ module _ (mode : Mode) (es : List Entry) (t v : Stream) (p q : Option ℕ) (w : 
 
   marker_left : AreOctets (cut p t.rest) → HasMarker mode (cut p t.rest) (cut q v.rest) → (remain mode (Indefinite ∷ es) p t.rest ≡ remain mode es q v.rest)
   marker_left a m =
-      indefinite_ends mode es (cut p t.rest) (cut q v.rest) (past p t.rest).octets (lack p t.rest) a (ap (read_end mode) m.rest ∙ read_end-complete mode m.marker (cut q v.rest) m.is_end)
+      indefinite_ends mode es (cut p t.rest) (cut q v.rest) (past p t.rest).octets (lack p t.rest) a
+      (ap (read_end mode) m.rest ∙ read_end-complete mode m.marker (cut q v.rest) m.is_end)
       ∙ ap (λ x. ends mode es (cut q v.rest) x (past p t.rest).octets) (ap (lack p) g.rest ∙ lack_falls p q w v.rest f)
       ∙ ap (λ (x : Layer). ends mode es (cut q v.rest) (lack q v.rest) x.octets) (sym l)
 
   -- the end of content, as content tells it
-  pub end_left : (c : Reading) (d : Reading) (k : Kind) (top : Entry) → c.kind ≡ values k → TopIs (top ∷ es) k → c.state ≡ Open → c.mode ≡ mode → c.owed ≡ p → c.stream.rest ≡ cut p t.rest → d.stream.rest ≡ cut q v.rest → AreOctets (cut p t.rest) → EndsAt c d → (remain mode (top ∷ es) p t.rest ≡ remain mode es (restored top q) v.rest) × (unwound (top ∷ es) q ≡ unwound es (restored top q))
+  pub end_left : (c : Reading) (d : Reading) (k : Kind) (top : Entry) → c.kind ≡ values k → TopIs (top ∷ es) k → c.state ≡ Open → c.mode ≡ mode → c.owed ≡ p
+      → c.stream.rest ≡ cut p t.rest → d.stream.rest ≡ cut q v.rest → AreOctets (cut p t.rest) → EndsAt c d
+      → (remain mode (top ∷ es) p t.rest ≡ remain mode es (restored top q) v.rest) × (unwound (top ∷ es) q ≡ unwound es (restored top q))
   end_left c d k top ck ti cs cm co cr dr a (inl x) = absurd (open_not_ended c.state cs x)
   end_left c d k top ck ti cs cm co cr dr a (inr (s, of_octets x o)) = absurd (let y : ◌≡◌ {A = ContentForm} (values k) Octets = sym ck ∙ x in cc)
   end_left c d k (Definite b) ck ti cs cm co cr dr a (inr (s, of_definite x o)) = definite_left b (sym co ∙ o)
   end_left c d k Indefinite ck ti cs cm co cr dr a (inr (s, of_definite x o)) = absurd (kinds_differ k (kind_is k kind.Definite (sym ck ∙ x)) ti)
   end_left c d k (Definite b) ck ti cs cm co cr dr a (inr (s, of_indefinite x m)) = absurd (kinds_differ k ti (kind_is k kind.Indefinite (sym ck ∙ x)))
-  end_left c d k Indefinite ck ti cs cm co cr dr a (inr (s, of_indefinite x m)) =
-      (marker_left a (subst (λ z. HasMarker mode z (cut q v.rest)) cr (subst (λ z. HasMarker mode c.stream.rest z) dr (subst (λ z. HasMarker z c.stream.rest d.stream.rest) cm m))), refl)
-  end_left c d k (Definite b) ck ti cs cm co cr dr a (inr (s, of_unbounded x e)) = absurd (let y : kind.Unbounded ≡ kind.Definite = sym (kind_is k kind.Unbounded (sym ck ∙ x)) ∙ ti in cc)
-  end_left c d k Indefinite ck ti cs cm co cr dr a (inr (s, of_unbounded x e)) = absurd (let y : kind.Unbounded ≡ kind.Indefinite = sym (kind_is k kind.Unbounded (sym ck ∙ x)) ∙ ti in cc)
+  end_left c d k Indefinite ck ti cs cm co cr dr a (inr (s, of_indefinite x m)) = (
+    marker_left a (subst (λ z. HasMarker mode z (cut q v.rest)) cr
+        (subst (λ z. HasMarker mode c.stream.rest z) dr (subst (λ z. HasMarker z c.stream.rest d.stream.rest) cm m))),
+    refl,
+  )
+  end_left c d k (Definite b) ck ti cs cm co cr dr a (inr (s, of_unbounded x e)) =
+      absurd (let y : kind.Unbounded ≡ kind.Definite = sym (kind_is k kind.Unbounded (sym ck ∙ x)) ∙ ti in cc)
+  end_left c d k Indefinite ck ti cs cm co cr dr a (inr (s, of_unbounded x e)) =
+      absurd (let y : kind.Unbounded ≡ kind.Indefinite = sym (kind_is k kind.Unbounded (sym ck ∙ x)) ∙ ti in cc)
 
 -- the innermost value ended, and was left
-pub left : (mode : Mode) (h : Header) (s : Stream) (o : Option ℕ) (calls : List Heading) (es fs : List Entry) (t v : Stream) (p q r : Option ℕ) (w : List ℕ) (c d : Reading) (k : Kind)
+pub left : (mode : Mode) (h : Header) (s : Stream) (o : Option ℕ) (calls : List Heading) (es fs : List Entry) (t v : Stream) (p q r : Option ℕ) (w : List ℕ)
+    (c d : Reading) (k : Kind)
     → IsUnderWay mode h s o calls es t p → Passes t w v → Falls p (length w) q → past q v.rest ≡ past p t.rest
-    → c.kind ≡ values k → TopIs es k → c.state ≡ Open → c.mode ≡ mode → c.owed ≡ p → c.stream.rest ≡ cut p t.rest → d.stream.rest ≡ cut q v.rest → AreOctets (cut p t.rest) → EndsAt c d
+    → c.kind ≡ values k → TopIs es k → c.state ≡ Open → c.mode ≡ mode → c.owed ≡ p → c.stream.rest ≡ cut p t.rest → d.stream.rest ≡ cut q v.rest
+    → AreOctets (cut p t.rest) → EndsAt c d
     → LeavesInnermost es q fs r → IsUnderWay mode h s o calls fs v r
 left mode h s o calls es fs t v p q r w c d k u g f l ck ti cs cm co cr dr a e x =
     let is : es ≡ x.top ∷ fs = x.is in
     let b = end_left mode fs t v p q w g f l c d k x.top ck (subst (λ z. TopIs z k) is ti) cs cm co cr dr a e in
     let i : unwound es q ≡ unwound fs r = ap (λ z. unwound z q) is ∙ b.1 ∙ ap (unwound fs) (sym x.limit) in
     record {
-      outcome = u.outcome ∙ ap (after_headings (heading h 0 ∷ calls)) (ap (λ z. remain mode z p t.rest) is ∙ b.0 ∙ ap (λ z. remain mode fs z v.rest) (sym x.limit));
-      passes = subst (PassesCalls mode s o calls v) i (calls_on mode s o calls t v (unwound es p) (unwound es q) w u.passes g (falls_unwound es p q (length w) f));
-      part = record { tree = u.part.tree; opened = AreOpen-less (length fs) (length es) (u.part.tree ∷ₜ no_trees) (omega (arith, ap length is)) u.part.opened; are = u.part.are };
+      outcome =
+          u.outcome ∙ ap (after_headings (heading h 0 ∷ calls)) (ap (λ z. remain mode z p t.rest) is ∙ b.0 ∙ ap (λ z. remain mode fs z v.rest) (sym x.limit));
+      passes = subst (PassesCalls mode s o calls v) i
+          (calls_on mode s o calls t v (unwound es p) (unwound es q) w u.passes g (falls_unwound es p q (length w) f));
+      part = record {
+        tree = u.part.tree;
+        opened = AreOpen-less (length fs) (length es) (u.part.tree ∷ₜ no_trees) (omega (arith, ap length is)) u.part.opened;
+        are = u.part.are;
+      };
       limits = subst (AreLimited fs) (sym x.limit) (limited_left x.top fs q (subst (λ z. AreLimited z q) is (limited_falls es p q (length w) f u.limits)));
     }
 
 -- ---- a header that is refused
 
-pub broken : (mode : Mode) (h : Header) (s : Stream) (o : Option ℕ) (calls : List Heading) (es : List Entry) (t v : Stream) (p q r : Option ℕ) (w : List ℕ) → IsUnderWay mode h s o calls es t p → Passes t w v → Falls p (length w) q → r ≡ unwound es q → IsBroken mode h s o calls v r
+pub broken : (mode : Mode) (h : Header) (s : Stream) (o : Option ℕ) (calls : List Heading) (es : List Entry) (t v : Stream) (p q r : Option ℕ) (w : List ℕ)
+    → IsUnderWay mode h s o calls es t p → Passes t w v → Falls p (length w) q → r ≡ unwound es q → IsBroken mode h s o calls v r
 broken mode h s o calls es t v p q r w u g f i = record {
   some = (u.part.tree, [], u.part.are ∙ ap (λ l. heading h 0 ∷ l) (sym (append-nil calls)));
-  one = λ y x e. front_of (heading h 0 ∷ calls) (remain mode es p t.rest) y x (lack o s.rest) (past o s.rest).octets mode (sym (ap (λ z. next_to mode [] z (lack o s.rest) (past o s.rest).octets) e) ∙ u.outcome);
+  one = λ y x e. front_of (heading h 0 ∷ calls) (remain mode es p t.rest) y x (lack o s.rest) (past o s.rest).octets mode
+      (sym (ap (λ z. next_to mode [] z (lack o s.rest) (past o s.rest).octets) e) ∙ u.outcome);
   passes = rw i (calls_on mode s o calls t v (unwound es p) (unwound es q) w u.passes g (falls_unwound es p q (length w) f));
 }
 
 -- where no value stands in front of open content that is not at its end, nothing remains
-module _ (mode : Mode) (es : List Entry) (t : Stream) (p : Option ℕ) (c : Reading) (k : Kind) (ck : c.kind ≡ values k) (cs : c.state ≡ Open) (cm : c.mode ≡ mode) (co : c.owed ≡ p) (cr : c.stream.rest ≡ cut p t.rest) (a : AreOctets (cut p t.rest)) (n : NoValue c) (e : NotAtEnd c) where
+module _ (mode : Mode) (es : List Entry) (t : Stream) (p : Option ℕ) (c : Reading) (k : Kind) (ck : c.kind ≡ values k) (cs : c.state ≡ Open)
+    (cm : c.mode ≡ mode) (co : c.owed ≡ p) (cr : c.stream.rest ≡ cut p t.rest) (a : AreOctets (cut p t.rest)) (n : NoValue c) (e : NotAtEnd c) where
   unread : (r : Option (Tree × List ℕ)) → read_tree mode (cut p t.rest) ≡ r → r ≡ None
   unread None z = refl
-  unread (Some u) z = (let y = tree_sound mode (cut p t.rest) u a z in absurd (n.none u.0 y.front u.1 (subst (λ m. IsEncoding m u.0 y.front) (sym cm) y.is_encoding) (cr ∙ y.is)))
+  unread (Some u) z = (let y = tree_sound mode (cut p t.rest) u a z in
+      absurd (n.none u.0 y.front u.1 (subst (λ m. IsEncoding m u.0 y.front) (sym cm) y.is_encoding) (cr ∙ y.is)))
 
-  next_nothing : (top : Entry) (m : ℕ) → at_end mode (is_indefinite top) (cut p t.rest) ≡ None → ends mode (top ∷ es) (cut p t.rest) m (past p t.rest).octets ≡ None
-  next_nothing top m f = goes_on mode top es (cut p t.rest) (past p t.rest).octets m a f ∙ ap (λ r. next_to mode (top ∷ es) r m (past p t.rest).octets) (unread (read_tree mode (cut p t.rest)) refl)
+  next_nothing : (top : Entry) (m : ℕ) → at_end mode (is_indefinite top) (cut p t.rest) ≡ None
+      → ends mode (top ∷ es) (cut p t.rest) m (past p t.rest).octets ≡ None
+  next_nothing top m f = goes_on mode top es (cut p t.rest) (past p t.rest).octets m a f
+      ∙ ap (λ r. next_to mode (top ∷ es) r m (past p t.rest).octets) (unread (read_tree mode (cut p t.rest)) refl)
 
   unmarked : (r : Option (List ℕ)) → k ≡ kind.Indefinite → read_end mode (cut p t.rest) ≡ r → r ≡ None
   unmarked None i z = refl
   unmarked (Some x) i z =
       let y = end_sound mode (cut p t.rest) x a z in
-      absurd (e.none x (inr (cs, of_indefinite (ck ∙ ap values i) (record { marker = y.marker; is_end = subst (λ m. IsEndOfContents m y.marker) (sym cm) y.is_end; rest = cr ∙ y.is }))))
+      absurd (e.none x (inr (
+        cs,
+        of_indefinite (ck ∙ ap values i)
+            (record { marker = y.marker; is_end = subst (λ m. IsEndOfContents m y.marker) (sym cm) y.is_end; rest = cr ∙ y.is }),
+      )))
 
   some_there : (x : List ℕ) → (length x ≡ 0 → ⊥) → at_end mode false x ≡ None
   unfolding at_end
@@ -495,19 +568,25 @@ module _ (mode : Mode) (es : List Entry) (t : Stream) (p : Option ℕ) (c : Read
     where
       go : (m : ℕ) → lack p t.rest ≡ m → ends mode (Definite b ∷ es) (cut p t.rest) m (past p t.rest).octets ≡ None
       go (suc m) l = too_few mode b es (cut p t.rest) (past p t.rest).octets m
-      go zero l = next_nothing (Definite b) 0 (some_there (cut p t.rest) (λ z. e.none c.stream.rest (inr (cs, of_definite (ck ∙ ap values ti) (co ∙ used p li.0 refl l z)))))
+      go zero l = next_nothing (Definite b) 0
+          (some_there (cut p t.rest) (λ z. e.none c.stream.rest (inr (cs, of_definite (ck ∙ ap values ti) (co ∙ used p li.0 refl l z)))))
 
 -- ---- the whole
 
-pub finished : (mode : Mode) (h : Header) (s : Stream) (o : Option ℕ) (calls : List Heading) (t : Stream) (p : Option ℕ) → IsUnderWay mode h s o calls [] t p → (u : Tree) × (read_contents (read_list mode) h.tag h.form h.len (cut o s.rest) ≡ Some (u, cut p t.rest)) × (preorder u 0 ≡ heading h 0 ∷ calls)
-finished mode h s o calls t p u = read_whole mode (read_contents (read_list mode) h.tag h.form h.len (cut o s.rest)) (lack o s.rest) (lack p t.rest) (cut p t.rest) (past o s.rest).octets (past p t.rest).octets (heading h 0 ∷ calls) u.outcome
+pub finished : (mode : Mode) (h : Header) (s : Stream) (o : Option ℕ) (calls : List Heading) (t : Stream) (p : Option ℕ) → IsUnderWay mode h s o calls [] t p
+    → (u : Tree) × (read_contents (read_list mode) h.tag h.form h.len (cut o s.rest) ≡ Some (u, cut p t.rest)) × (preorder u 0 ≡ heading h 0 ∷ calls)
+finished mode h s o calls t p u = read_whole mode (read_contents (read_list mode) h.tag h.form h.len (cut o s.rest)) (lack o s.rest) (lack p t.rest)
+    (cut p t.rest) (past o s.rest).octets (past p t.rest).octets (heading h 0 ∷ calls) u.outcome
 
 -- a refusal of a header means that the content of the first isn't there
-pub nothing_whole : (mode : Mode) (h : Header) (s : Stream) (o : Option ℕ) (calls : List Heading) (r : Reached) → due mode [] h o s.rest ≡ after_headings calls r → r ≡ None → read_contents (read_list mode) h.tag h.form h.len (cut o s.rest) ≡ None
-nothing_whole mode h s o calls r e n = nothing_read mode (read_contents (read_list mode) h.tag h.form h.len (cut o s.rest)) (lack o s.rest) (past o s.rest).octets (e ∙ ap (after_headings calls) n)
+pub nothing_whole : (mode : Mode) (h : Header) (s : Stream) (o : Option ℕ) (calls : List Heading) (r : Reached)
+    → due mode [] h o s.rest ≡ after_headings calls r → r ≡ None → read_contents (read_list mode) h.tag h.form h.len (cut o s.rest) ≡ None
+nothing_whole mode h s o calls r e n = nothing_read mode (read_contents (read_list mode) h.tag h.form h.len (cut o s.rest)) (lack o s.rest)
+    (past o s.rest).octets (e ∙ ap (after_headings calls) n)
 
 -- fewer octets than the header of a primitive value tells
-pub few_there : (mode : Mode) (es : List Entry) (h : Header) (t : Stream) (p : Option ℕ) (n : ℕ) → h.len ≡ len.Definite n → length t.rest < n → read_contents (read_list mode) h.tag h.form h.len (cut p t.rest) ≡ None
+pub few_there : (mode : Mode) (es : List Entry) (h : Header) (t : Stream) (p : Option ℕ) (n : ℕ) → h.len ≡ len.Definite n → length t.rest < n
+    → read_contents (read_list mode) h.tag h.form h.len (cut p t.rest) ≡ None
 few_there mode es h t p n e l = rw e (too_long (read_list mode) h.tag h.form n (cut p t.rest) (fewer p))
   where
     fewer : (p : Option ℕ) → length (cut p t.rest) < n

@@ -22,7 +22,8 @@ pub ruleset moves = (untouched_is_moved, moved_twice_is_moved)
 -- ---- single steps
 
 -- no octet passed, and the same state
-pub moves_still : (c d : Reading) → d.stream.rest ≡ c.stream.rest → d.stream.kept ≡ c.stream.kept → c.stream.faults ≤ d.stream.faults → d.owed ≡ c.owed → d.kind ≡ c.kind → (d.marked ≡ false → d.mode ≡ c.mode) → d.name ≡ c.name → d.state ≡ c.state → (c.marked ≡ true → d.marked ≡ true) → Moves c d
+pub moves_still : (c d : Reading) → d.stream.rest ≡ c.stream.rest → d.stream.kept ≡ c.stream.kept → c.stream.faults ≤ d.stream.faults → d.owed ≡ c.owed
+    → d.kind ≡ c.kind → (d.marked ≡ false → d.mode ≡ c.mode) → d.name ≡ c.name → d.state ≡ c.state → (c.marked ≡ true → d.marked ≡ true) → Moves c d
 unfolding Moves
 moves_still c d r h f o k m n e g = record {
   passed = [];
@@ -60,7 +61,8 @@ moves_failed c d p a g n f = record {
 }
 
 -- the marker ends indefinite content
-pub moves_marker : (c d : Reading) (e : List ℕ) → Advances c d e → IsEndOfContents c.mode e → d.marked ≡ c.marked → c.kind ≡ IndefiniteValues → c.state ≡ Open → d.state ≡ Ended → Moves c d
+pub moves_marker : (c d : Reading) (e : List ℕ) → Advances c d e → IsEndOfContents c.mode e → d.marked ≡ c.marked → c.kind ≡ IndefiniteValues → c.state ≡ Open
+    → d.state ≡ Ended → Moves c d
 unfolding Moves
 moves_marker c d e a t g i s f = record {
   passed = e;
@@ -75,7 +77,8 @@ moves_marker c d e a t g i s f = record {
   failed = λ x. absurd (open_not_failed c.state s x);
   marked = λ x. g ∙ x;
   ends = λ _. inr i;
-  whole = λ _ _. whole_marked c.mode c d e false d.marked (λ x. absurd (let y : false ≡ true = x in cc)) (record { trees = no_trees; values = []; close = e; split = refl; encodes = refl; closes = inr (t, i, s, f) });
+  whole = λ _ _. whole_marked c.mode c d e false d.marked (λ x. absurd (let y : false ≡ true = x in cc))
+      (record { trees = no_trees; values = []; close = e; split = refl; encodes = refl; closes = inr (t, i, s, f) });
 }
 
 -- primitive content is any octets
@@ -109,7 +112,8 @@ advances_trans c d e p q a b = record {
 }
 
 -- one whole value was taken; a mark inside it makes it BER
-pub moves_value : (c d : Reading) (p : List ℕ) (t : Tree) (inner : Bool) → Advances c d p → IsEncoding (label c.mode inner) t p → (c.marked ≡ true → d.marked ≡ true) → (inner ≡ true → d.marked ≡ true) → c.state ≡ Open → d.state ≡ Open → Moves c d
+pub moves_value : (c d : Reading) (p : List ℕ) (t : Tree) (inner : Bool) → Advances c d p → IsEncoding (label c.mode inner) t p
+    → (c.marked ≡ true → d.marked ≡ true) → (inner ≡ true → d.marked ≡ true) → c.state ≡ Open → d.state ≡ Open → Moves c d
 unfolding Moves
 moves_value c d p t inner a v g h s e = record {
   passed = p;
@@ -124,17 +128,35 @@ moves_value c d p t inner a v g h s e = record {
   failed = λ x. absurd (open_not_failed c.state s x);
   marked = g;
   ends = λ x. absurd (open_not_ended d.state e x);
-  whole = λ _ _. whole_marked c.mode c d p inner d.marked h (record { trees = t ∷ₜ no_trees; values = p; close = []; split = sym (append-nil p); encodes = AreEncodings-one (label c.mode inner) t p v; closes = inl (refl, e ∙ sym s) });
+  whole = λ _ _. whole_marked c.mode c d p inner d.marked h (record {
+    trees = t ∷ₜ no_trees;
+    values = p;
+    close = [];
+    split = sym (append-nil p);
+    encodes = AreEncodings-one (label c.mode inner) t p v;
+    closes = inl (refl, e ∙ sym s);
+  });
 }
 
 -- nothing but a mode was changed
-pub moves_changed : (c d : Reading) → d.stream ≡ c.stream → d.owed ≡ c.owed → d.kind ≡ c.kind → d.name ≡ c.name → d.state ≡ c.state → d.marked ≡ true → Moves c d
+pub moves_changed : (c d : Reading) → d.stream ≡ c.stream → d.owed ≡ c.owed → d.kind ≡ c.kind → d.name ≡ c.name → d.state ≡ c.state
+    → d.marked ≡ true → Moves c d
 moves_changed c d s o k n e g =
-    moves_still c d (ap (λ x. x.rest) s) (ap (λ x. x.kept) s) (omega (arith, ap (λ x. x.faults) s)) o k (λ x. absurd (let y : true ≡ false = sym g ∙ x in cc)) n e (λ _. g)
+    moves_still c d (ap (λ x. x.rest) s) (ap (λ x. x.kept) s) (omega (arith, ap (λ x. x.faults) s)) o k
+    (λ x. absurd (let y : true ≡ false = sym g ∙ x in cc)) n e (λ _. g)
 
 -- nothing was taken, and content has failed
-pub moves_refused : (c d : Reading) → d.stream ≡ c.stream → d.owed ≡ c.owed → d.kind ≡ c.kind → d.mode ≡ c.mode → d.name ≡ c.name → d.marked ≡ c.marked → c.state ≢ Ended → d.state ≡ Failed → Moves c d
+pub moves_refused : (c d : Reading) → d.stream ≡ c.stream → d.owed ≡ c.owed → d.kind ≡ c.kind → d.mode ≡ c.mode → d.name ≡ c.name → d.marked ≡ c.marked
+    → c.state ≢ Ended → d.state ≡ Failed → Moves c d
 moves_refused c d s o k m n g e f =
     moves_failed c d []
-    (record { rest = ap (λ x. x.rest) (sym s); owed = rw o (Falls-refl c.owed); kept = ap (λ x. x.kept) s; faults = omega (arith, ap (λ x. x.faults) s); kind = k; mode = m; name = n })
+    (record {
+      rest = ap (λ x. x.rest) (sym s);
+      owed = rw o (Falls-refl c.owed);
+      kept = ap (λ x. x.kept) s;
+      faults = omega (arith, ap (λ x. x.faults) s);
+      kind = k;
+      mode = m;
+      name = n;
+    })
     (λ x. g ∙ x) e f

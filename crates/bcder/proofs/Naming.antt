@@ -8,7 +8,9 @@ use Rattle.bcder.specs.declared.decode.violation.Violation.{Violation}
 use Rattle.bcder.specs.x690.Encoding.{Header, IsHeader}
 use Rattle.bcder.specs.calls.Cause.{Cause, IsOfContent}
 use Rattle.bcder.specs.calls.Violations.{ViolatesFront}
-use Rattle.bcder.specs.calls.Content.{Reading, Asked, any, HasHeader, HasMarker, IsAtEnd, of_octets, of_definite, of_indefinite, of_unbounded, EndsBefore, NothingThere, Falls, FitsOwed, Resembles, HasLongValue, Violates, NamesViolation, NamesFront, in_front, truncated_contents, value_too_long, stray_end}
+use Rattle.bcder.specs.calls.Content.{Reading, Asked, any, HasHeader, HasMarker, IsAtEnd, of_octets, of_definite, of_indefinite}
+use Rattle.bcder.specs.calls.Content.{of_unbounded, EndsBefore, NothingThere, Falls, FitsOwed, Resembles, HasLongValue, Violates}
+use Rattle.bcder.specs.calls.Content.{NamesViolation, NamesFront, in_front, truncated_contents, value_too_long, stray_end}
 use Rattle.bcder.specs.laws.Stands.{Headed}
 
 pub of_violation : (c : Reading) (why : Cause ContentError) → NamesViolation why c → IsOfContent why
@@ -18,7 +20,8 @@ of_violation c why n = subst IsOfContent (sym n.named) tt
 pub names_front : (asked : Asked) (c : Reading) (why : Cause ContentError) → NamesViolation why c → NamesFront asked why c
 names_front asked c why n = record { refused = of_violation c why n; named = λ _. n }
 
-pub behind_header : (asked : Asked) (c : Reading) (why : Cause ContentError) → IsOfContent why → (after : List ℕ) → HasHeader asked c after → NamesFront asked why c
+pub behind_header : (asked : Asked) (c : Reading) (why : Cause ContentError) → IsOfContent why → (after : List ℕ) → HasHeader asked c after
+    → NamesFront asked why c
 behind_header asked c why o after h = record { refused = o; named = λ n. absurd (n.header after h) }
 
 -- so it will at the end
@@ -55,7 +58,8 @@ module _ (c d : Reading) (s : Alike c d) where
     owed = sym s.owed ∙ h.owed;
     beyond = h.beyond;
   })
-  violates_alike r (stray_end e k a m) = stray_end e (λ x. k (s.kind ∙ x)) a (subst (λ m. HasMarker m c.stream.rest a) s.mode (subst (λ z. HasMarker d.mode z a) s.rest m))
+  violates_alike r (stray_end e k a m) =
+      stray_end e (λ x. k (s.kind ∙ x)) a (subst (λ m. HasMarker m c.stream.rest a) s.mode (subst (λ z. HasMarker d.mode z a) s.rest m))
 
   pub named_alike : (why : Cause ContentError) → NamesViolation why d → NamesViolation why c
   named_alike why n = record { violation = n.violation; violates = violates_alike n.violation n.violates; named = n.named }
@@ -88,16 +92,22 @@ module _ (c d : Reading) (s : Alike c d) where
   ends_alike after (inr e) = inr (sym s.state ∙ e.0, at_end_alike after e.1)
 
   nothing_alike : NothingThere any c → NothingThere any d
-  nothing_alike n = record { usable = s.state ∙ n.usable; header = λ after h. n.header after (header_alike any after h); absent = λ after e. n.absent after (ends_alike after e) }
+  nothing_alike n = record {
+    usable = s.state ∙ n.usable;
+    header = λ after h. n.header after (header_alike any after h);
+    absent = λ after e. n.absent after (ends_alike after e);
+  }
 
   pub front_named : (why : Cause ContentError) → NamesFront any why d → NamesFront any why c
   front_named why f = record { refused = f.refused; named = λ n. named_alike why (f.named (nothing_alike n)) }
 
 -- a length that is more than what is owed behind the header
-pub long_value : (c d : Reading) (h : Header) (x : List ℕ) (p : Headed c.mode h c.stream.rest x) → Falls c.owed (length p.octets) d.owed → (FitsOwed h.len d.owed → ⊥) → HasLongValue c
+pub long_value : (c d : Reading) (h : Header) (x : List ℕ) (p : Headed c.mode h c.stream.rest x) → Falls c.owed (length p.octets) d.owed
+    → (FitsOwed h.len d.owed → ⊥) → HasLongValue c
 long_value c d h x p f u = go h.len refl c.owed refl d.owed refl f u
   where
-    go : (len : Length) → h.len ≡ len → (o : Option ℕ) → c.owed ≡ o → (q : Option ℕ) → d.owed ≡ q → Falls o (length p.octets) q → (FitsOwed len q → ⊥) → HasLongValue c
+    go : (len : Length) → h.len ≡ len → (o : Option ℕ) → c.owed ≡ o → (q : Option ℕ) → d.owed ≡ q → Falls o (length p.octets) q
+        → (FitsOwed len q → ⊥) → HasLongValue c
     go Indefinite e o oe q qe f u = absurd (u refl)
     go (Definite n) e None oe None qe f u = absurd (u refl)
     go (Definite n) e (Some a) oe None qe f u = absurd (f refl)

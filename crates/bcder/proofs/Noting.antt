@@ -1,5 +1,6 @@
 -- Sizes that are noted where encoders are measured, and read where they are written.
-use Rattle.std.proofs.Common.{◌≡◌, ℕ, List, [], ◌∷◌, ◌++◌, length, None, Some, Result, Ok, Err, refl, sym, ap, ◌∙◌, subst, ◌⊎◌, inl, inr, append_assoc, append-nil, ◌+◌, ◌<◌, ◌≤◌, drop_of_length-le, drop, get_or, suc, add-one, drop-cons}
+use Rattle.std.proofs.Common.{◌≡◌, ℕ, List, [], ◌∷◌, ◌++◌, length, None, Some, Result, Ok, Err, refl, sym, ap, ◌∙◌, subst, ◌⊎◌, inl, inr}
+use Rattle.std.proofs.Common.{append_assoc, append-nil, ◌+◌, ◌<◌, ◌≤◌, drop_of_length-le, drop, get_or, suc, add-one, drop-cons}
 use Rattle.std.specs.Prelude.{IfOk}
 use Rattle.bcder.specs.declared.length.Length.TheVariants.{Definite}
 use Rattle.bcder.specs.x690.Octets.{constructed_length}
@@ -38,7 +39,7 @@ noted_read {R} old new none n l is =
     let all : l ≡ n.sizes ++ [] = is ∙ n.added ∙ ap (λ b. b ++ n.sizes) none ∙ sym (append-nil n.sizes) in
     record { after = []; reads = subst (λ x. Reads R x []) (sym all) (n.reads [] (λ full. refl)) }
 
--- the same of those that are left of a tape
+-- the sizes that are left of a tape may be read
 pub left_read : {R : List ℕ → List ℕ → Type 0} (l m : List ℕ) → l ≡ m → MayRead R m → MayRead R l
 left_read {R} l m is may = subst (MayRead R) (sym is) may
 
@@ -91,11 +92,13 @@ module _ (R S : List ℕ → List ℕ → Type 0) where
   ended m n none (inl end) = end
   ended m n none (inr all) = all [] (inl (none, refl))
 
-  read_at : (l m n : List ℕ) → ((mid : List ℕ) → Reads R l mid → m ≡ mid) → ((after : List ℕ) → Reads S m after → n ≡ after) → (after : List ℕ) → Reads (ReadsThen R S) l after → n ≡ after
+  read_at : (l m n : List ℕ) → ((mid : List ℕ) → Reads R l mid → m ≡ mid) → ((after : List ℕ) → Reads S m after → n ≡ after) → (after : List ℕ)
+      → Reads (ReadsThen R S) l after → n ≡ after
   read_at l m n all more after (inl p) = more [] (inl (all [] (inl (p.0, refl)), refl)) ∙ sym p.1
   read_at l m n all more after (inr (mid, first, rest)) = more after (subst (λ x. Reads S x after) (sym (all mid first)) rest)
 
-  ends_at : (l m n : List ℕ) → (m ≡ []) ⊎ ((mid : List ℕ) → Reads R l mid → m ≡ mid) → (n ≡ []) ⊎ ((after : List ℕ) → Reads S m after → n ≡ after) → (n ≡ []) ⊎ ((after : List ℕ) → Reads (ReadsThen R S) l after → n ≡ after)
+  ends_at : (l m n : List ℕ) → (m ≡ []) ⊎ ((mid : List ℕ) → Reads R l mid → m ≡ mid) → (n ≡ []) ⊎ ((after : List ℕ) → Reads S m after → n ≡ after)
+      → (n ≡ []) ⊎ ((after : List ℕ) → Reads (ReadsThen R S) l after → n ≡ after)
   ends_at l m n (inl none) q = inl (ended m n none q)
   ends_at l m n (inr all) (inl end) = inl end
   ends_at l m n (inr all) (inr more) = inr (read_at l m n all more)
@@ -105,7 +108,8 @@ module _ (R S : List ℕ → List ℕ → Type 0) where
 
 -- ---- each of a list
 
-pub ReadsEach_at : {X : Type 0} (R : X → List ℕ → List ℕ → Type 0) (xs : List X) (i : ℕ) (x : X) → i < length xs → x ≡ get_or xs i x → ReadsEach R (drop i xs) ≡ ReadsThen (R x) (ReadsEach R (drop (i + 1) xs))
+pub ReadsEach_at : {X : Type 0} (R : X → List ℕ → List ℕ → Type 0) (xs : List X) (i : ℕ) (x : X) → i < length xs → x ≡ get_or xs i x
+    → ReadsEach R (drop i xs) ≡ ReadsThen (R x) (ReadsEach R (drop (i + 1) xs))
 ReadsEach_at R xs i x h is = ap (ReadsEach R) (drop-cons xs i x h ∙ ap (λ y. y ∷ drop (suc i) xs) (sym is) ∙ ap (λ j. x ∷ drop j xs) (sym (add-one i)))
 
 pub ReadsEach_end : {X : Type 0} (R : X → List ℕ → List ℕ → Type 0) (xs : List X) (i : ℕ) → length xs ≤ i → ReadsEach R (drop i xs) ≡ ReadsNone
@@ -118,7 +122,8 @@ pub record NotedSoFar (R rest : List ℕ → List ℕ → Type 0) (old mid : Siz
 pub noted_start : {R : List ℕ → List ℕ → Type 0} {a : Sizes} → NotedSoFar R R a a
 noted_start = record { leads = λ new n. n }
 
-pub noted_next : {R : List ℕ → List ℕ → Type 0} (S rest : List ℕ → List ℕ → Type 0) {old mid new : Sizes} → NotedSoFar R (ReadsThen S rest) old mid → Notes S mid new → NotedSoFar R rest old new
+pub noted_next : {R : List ℕ → List ℕ → Type 0} (S rest : List ℕ → List ℕ → Type 0) {old mid new : Sizes} → NotedSoFar R (ReadsThen S rest) old mid
+    → Notes S mid new → NotedSoFar R rest old new
 noted_next S rest s n = record { leads = λ end more. s.leads end (then_noted S rest n more) }
 
 pub noted_done : {R : List ℕ → List ℕ → Type 0} {old mid : Sizes} → NotedSoFar R ReadsNone old mid → Notes R old mid
@@ -132,7 +137,8 @@ pub record ReadSoFar (R rest : List ℕ → List ℕ → Type 0) (old mid : List
 pub read_start : {R : List ℕ → List ℕ → Type 0} {l : List ℕ} → MayRead R l → ReadSoFar R R l l
 read_start may = record { may = may; leads = λ new r. r }
 
-pub read_next : {R : List ℕ → List ℕ → Type 0} (S rest : List ℕ → List ℕ → Type 0) {old mid new : List ℕ} → ReadSoFar R (ReadsThen S rest) old mid → HasRead S mid new → ReadSoFar R rest old new
+pub read_next : {R : List ℕ → List ℕ → Type 0} (S rest : List ℕ → List ℕ → Type 0) {old mid new : List ℕ} → ReadSoFar R (ReadsThen S rest) old mid
+    → HasRead S mid new → ReadSoFar R rest old new
 read_next S rest {old} {mid} {new} s r = record {
   may = rest_may S rest mid new s.may r;
   leads = λ end more. s.leads end (then_read S rest mid new end r more);
@@ -154,7 +160,8 @@ module _ (M : Meaning → Type 0) (R : List ℕ → List ℕ → Type 0) where
   pub inside_may : (l m : List ℕ) (size : ℕ) → l ≡ size ∷ m → MayRead (ReadsInside M R) l → HasSize M size × MayRead R m
   inside_may l m size is may = let (sized, r) = inside_at l m may.after size is may.reads in (sized, record { after = may.after; reads = r })
 
-  inside_ends : (l m n : List ℕ) (size : ℕ) → l ≡ size ∷ m → (n ≡ []) ⊎ ((after : List ℕ) → Reads R m after → n ≡ after) → (n ≡ []) ⊎ ((after : List ℕ) → Reads (ReadsInside M R) l after → n ≡ after)
+  inside_ends : (l m n : List ℕ) (size : ℕ) → l ≡ size ∷ m → (n ≡ []) ⊎ ((after : List ℕ) → Reads R m after → n ≡ after)
+      → (n ≡ []) ⊎ ((after : List ℕ) → Reads (ReadsInside M R) l after → n ≡ after)
   inside_ends l m n size is (inl none) = inl none
   inside_ends l m n size is (inr all) = inr (λ after r. all after (inside_at l m after size is r).1)
 
@@ -167,7 +174,8 @@ module _ (M : Meaning → Type 0) (R : List ℕ → List ℕ → Type 0) where
   within_at l after (inl p) = inl p
   within_at l after (inr r) = r
 
-  within_ends : (l n : List ℕ) → (n ≡ []) ⊎ ((after : List ℕ) → Reads R l after → n ≡ after) → (n ≡ []) ⊎ ((after : List ℕ) → Reads (Reads R) l after → n ≡ after)
+  within_ends : (l n : List ℕ) → (n ≡ []) ⊎ ((after : List ℕ) → Reads R l after → n ≡ after)
+      → (n ≡ []) ⊎ ((after : List ℕ) → Reads (Reads R) l after → n ≡ after)
   within_ends l n (inl none) = inl none
   within_ends l n (inr all) = inr (λ after r. all after (within_at l after r))
 

@@ -1,5 +1,6 @@
 -- The sign and the magnitude that contents octets of integers tell.
-use Rattle.std.proofs.Common.{◌≡◌, ℕ, zero, suc, ◌+◌, ◌-◌, ◌*◌, ◌^◌, ◌<◌, ◌≤◌, Bool, true, false, List, [], ◌∷◌, ◌≢◌, ◌++◌, length, take, drop, get_or, inl, inr, refl, sym, ap, ◌∙◌, arith, length-append, subst}
+use Rattle.std.proofs.Common.{◌≡◌, ℕ, zero, suc, ◌+◌, ◌-◌, ◌*◌, ◌^◌, ◌<◌, ◌≤◌, Bool, true, false, List, [], ◌∷◌, ◌≢◌, ◌++◌, length}
+use Rattle.std.proofs.Common.{take, drop, get_or, inl, inr, refl, sym, ap, ◌∙◌, arith, length-append, subst}
 use Rattle.std.specs.Prelude.{ℤ, pos, negsuc}
 use Rattle.std.specs.Int.{complement_if}
 use Rattle.std.proofs.lemmas.List.{take_more, length-take}
@@ -21,7 +22,8 @@ magnitude_snoc neg (b ∷ w) d =
     let q : octet neg b * 256 ^ length (w ++ d ∷ []) ≡ octet neg b * (256 * 256 ^ length w) = ap (λ k. octet neg b * 256 ^ k) l ∙ ap (λ x. octet neg b * x) p in
     omega (arith, q, r)
 
-pub magnitude_step : (neg : Bool) (w : List ℕ) (i : ℕ) → i < length w → magnitude neg (take (i + 1) w) ≡ magnitude neg (take i w) * 256 + octet neg (get_or w i 0)
+pub magnitude_step : (neg : Bool) (w : List ℕ) (i : ℕ) → i < length w
+    → magnitude neg (take (i + 1) w) ≡ magnitude neg (take i w) * 256 + octet neg (get_or w i 0)
 magnitude_step neg w i l = rw (take_more w i 0 l) (magnitude_snoc neg (take i w) (get_or w i 0))
 
 octet_below : (neg : Bool) (b : ℕ) → b < 256 → octet neg b < 256
@@ -108,7 +110,8 @@ seventeen false m l h = omega (arith, l, h)
 seventeen true m l h = omega (arith, l, h)
 
 -- a number of 17 octets whose first tells something, or of more, has a magnitude of more than 128 bits
-pub too_large : (neg : Bool) (w : List ℕ) → AreOctets w → Leads neg w → 16 < length w → (length w ≡ 17 → octet neg (get_or w 0 0) ≢ 0) → IsNoNumber HasMagnitude w
+pub too_large : (neg : Bool) (w : List ℕ) → AreOctets w → Leads neg w → 16 < length w → (length w ≡ 17 → octet neg (get_or w 0 0) ≢ 0)
+    → IsNoNumber HasMagnitude w
 too_large neg w o l long top z a h = elim (cases_lt (length w) 18) [
   | inl short ↦ (
       let count : length w ≡ 17 = omega arith in

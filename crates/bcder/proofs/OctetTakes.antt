@@ -18,18 +18,20 @@ capped_all : (o : Option ℕ) (n : ℕ) (xs : List ℕ) → n ≤ length (cut o 
 capped_all None n xs h = h
 capped_all (Some m) n xs h = grind (arith, common_steps)
 
--- the same source with all of its octets at hand
+-- source s with all of its octets at hand
 abbrev all_at_hand : Stream → Stream
 all_at_hand s = record { rest = s.rest; avail = length s.rest; faults = s.faults; position = s.position; kept = s.kept }
 
 all_sound : (s : Stream) → IsSound s → IsSound (all_at_hand s)
 all_sound s h = record { octets = h.octets; size = h.size; at_hand = omega arith }
 
--- the same content over all of them
+-- content c over all octets of a source
 abbrev with_all : Reading → Stream → Option ℕ → Reading
 with_all c s o = record { stream = limited o (all_at_hand s); owed = o; kind = c.kind; state = c.state; mode = c.mode; marked = c.marked; name = c.name }
 
-module _ (c d : Reading) (s u : Stream) (o q : Option ℕ) (cs : c.stream ≡ limited o s) (co : c.owed ≡ o) (ds : d.stream ≡ limited q u) (do' : d.owed ≡ q) (so : IsSound s) (k : (limited q u).kept ≡ (limited o s).kept) (oc : c.kind ≡ Octets) (op : c.state ≡ Open) (ki : d.kind ≡ c.kind) (st : d.state ≡ Open) (mo : d.mode ≡ c.mode) (ma : d.marked ≡ c.marked) (na : d.name ≡ c.name) where
+module _ (c d : Reading) (s u : Stream) (o q : Option ℕ) (cs : c.stream ≡ limited o s) (co : c.owed ≡ o) (ds : d.stream ≡ limited q u) (do' : d.owed ≡ q)
+    (so : IsSound s) (k : (limited q u).kept ≡ (limited o s).kept) (oc : c.kind ≡ Octets) (op : c.state ≡ Open) (ki : d.kind ≡ c.kind) (st : d.state ≡ Open)
+    (mo : d.mode ≡ c.mode) (ma : d.marked ≡ c.marked) (na : d.name ≡ c.name) where
   module _ (n : ℕ) (r : (limited q u).rest ≡ drop n (limited o s).rest) (l : n ≤ length (limited o s).rest) (f : u.faults ≡ s.faults) where
     advanced : Advances (with_all c s o) d (take n (limited o s).rest)
     advanced = advances_by (with_all c s o) d (all_at_hand s) u o q n refl refl ds do' (all_sound s so) r f k (capped_all o n s.rest l) ki mo na
@@ -69,7 +71,9 @@ module _ (c d : Reading) (s u : Stream) (o q : Option ℕ) (cs : c.stream ≡ li
 
   -- ---- what the calls of the source say of the content
 
-  pub next_octet : {E : Type 0} (r : Result (Option ℕ) E) → IfOk r (λ x. MatchOption x (((limited o s).rest ≡ []) × ((limited q u).rest ≡ [])) (λ b. (limited o s).rest ≡ b ∷ (limited q u).rest)) → OnOk r (u.faults ≡ s.faults) → OnErr r (Grew s.faults u.faults) → OnErr r ((limited q u).rest ≡ (limited o s).rest) → Moves c d × TakesNextOctet c r d
+  pub next_octet : {E : Type 0} (r : Result (Option ℕ) E)
+      → IfOk r (λ x. MatchOption x (((limited o s).rest ≡ []) × ((limited q u).rest ≡ [])) (λ b. (limited o s).rest ≡ b ∷ (limited q u).rest))
+      → OnOk r (u.faults ≡ s.faults) → OnErr r (Grew s.faults u.faults) → OnErr r ((limited q u).rest ≡ (limited o s).rest) → Moves c d × TakesNextOctet c r d
   next_octet (Ok (Some b)) e f g r =
       let a : (limited q u).rest ≡ drop 1 (limited o s).rest = sym (ap (drop 1) e) in
       let l : 1 ≤ length (limited o s).rest = (let h = ap length e in omega arith) in (
@@ -101,7 +105,9 @@ module _ (c d : Reading) (s u : Stream) (o q : Option ℕ) (cs : c.stream ≡ li
     },
   )
 
-  pub one_octet : {X : Type 0} (r : Result ℕ (DecodeError X)) → IfOk r (λ b. (limited o s).rest ≡ b ∷ (limited q u).rest) → OnOk r (u.faults ≡ s.faults) → IfErr r (λ e. MatchCause (cause_of e) (Grew s.faults u.faults) ((u.faults ≡ s.faults) × ((limited o s).rest ≡ []) × IsRefusal e) ⊥) → s.faults ≤ u.faults → OnErr r ((limited q u).rest ≡ (limited o s).rest) → Moves c d × TakesOctet c r d
+  pub one_octet : {X : Type 0} (r : Result ℕ (DecodeError X)) → IfOk r (λ b. (limited o s).rest ≡ b ∷ (limited q u).rest) → OnOk r (u.faults ≡ s.faults)
+      → IfErr r (λ e. MatchCause (cause_of e) (Grew s.faults u.faults) ((u.faults ≡ s.faults) × ((limited o s).rest ≡ []) × IsRefusal e) ⊥)
+      → s.faults ≤ u.faults → OnErr r ((limited q u).rest ≡ (limited o s).rest) → Moves c d × TakesOctet c r d
   one_octet (Ok b) e f g h r =
       let a : (limited q u).rest ≡ drop 1 (limited o s).rest = sym (ap (drop 1) e) in
       let l : 1 ≤ length (limited o s).rest = (let h = ap length e in omega arith) in (
@@ -118,12 +124,15 @@ module _ (c d : Reading) (s u : Stream) (o q : Option ℕ) (cs : c.stream ≡ li
     record {
       taken = tt;
       owed = tt;
-      refused = subst (λ z. MatchCause (cause_of x) (Grew z.faults d.stream.faults) ((d.stream.faults ≡ z.faults) × (z.rest ≡ []) × IsRefusal x) ⊥) (sym cs) (subst (λ z. MatchCause (cause_of x) (Grew s.faults z.faults) ((z.faults ≡ s.faults) × ((limited o s).rest ≡ []) × IsRefusal x) ⊥) (sym ds) g);
+      refused = subst (λ z. MatchCause (cause_of x) (Grew z.faults d.stream.faults) ((d.stream.faults ≡ z.faults) × (z.rest ≡ []) × IsRefusal x) ⊥) (sym cs)
+          (subst (λ z. MatchCause (cause_of x) (Grew s.faults z.faults) ((z.faults ≡ s.faults) × ((limited o s).rest ≡ []) × IsRefusal x) ⊥) (sym ds) g);
       leaves = record { no_fault = tt; kept = same_rest r; still_owed = same_owed r; mode = mo; marked = ma };
     },
   )
 
-  pub some_octets : {E : Type 0} (n : ℕ) (r : Result ℕ E) → IfOk r (λ j. j ≡ min n (length (limited o s).rest)) → IfOk r (λ j. (limited q u).rest ≡ drop j (limited o s).rest) → OnOk r (u.faults ≡ s.faults) → OnErr r (Grew s.faults u.faults) → OnErr r ((limited q u).rest ≡ (limited o s).rest) → Moves c d × SkipsOctets n c r d
+  pub some_octets : {E : Type 0} (n : ℕ) (r : Result ℕ E) → IfOk r (λ j. j ≡ min n (length (limited o s).rest))
+      → IfOk r (λ j. (limited q u).rest ≡ drop j (limited o s).rest) → OnOk r (u.faults ≡ s.faults) → OnErr r (Grew s.faults u.faults)
+      → OnErr r ((limited q u).rest ≡ (limited o s).rest) → Moves c d × SkipsOctets n c r d
   some_octets n (Ok j) e a f g r =
       let l : j ≤ length (limited o s).rest = omega (arith, e) in (
         passed j a l f,

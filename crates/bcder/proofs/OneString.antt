@@ -1,5 +1,6 @@
 -- In CER and DER the octets of an octet string tell the value.
-use Rattle.std.proofs.Common.{◌≡◌, ℕ, ◌<◌, ◌≤◌, Bool, true, false, List, [], ◌∷◌, ◌++◌, length, take, drop, refl, ap, sym, ◌∙◌, arith, append-nil, subst, inl, inr}
+use Rattle.std.proofs.Common.{◌≡◌, ℕ, ◌<◌, ◌≤◌, Bool, true, false, List, [], ◌∷◌, ◌++◌, length, take, drop}
+use Rattle.std.proofs.Common.{refl, ap, sym, ◌∙◌, arith, append-nil, subst, inl, inr}
 use Rattle.std.specs.Prelude.{nat_eq}
 use Rattle.std.specs.List.{concat}
 use Rattle.std.proofs.lemmas.Bool.Decides.{nat_tests}
@@ -50,9 +51,13 @@ not_1000 n e is = (let x : false ≡ true = sym e ∙ ap (λ z. nat_eq z 1000) i
 
 -- the fronts of one length are the same, and so is what is behind them
 fronts : (v w x y : List ℕ) → v ++ x ≡ w ++ y → length v ≡ length w → (v ≡ w) × (x ≡ y)
-fronts v w x y e l = (sym (take_at v x (length w) l) ∙ ap (take (length w)) e ∙ take_at w y (length w) refl, sym (drop_at v x (length w) l) ∙ ap (drop (length w)) e ∙ drop_at w y (length w) refl)
+fronts v w x y e l = (
+  sym (take_at v x (length w) l) ∙ ap (take (length w)) e ∙ take_at w y (length w) refl,
+  sym (drop_at v x (length w) l) ∙ ap (drop (length w)) e ∙ drop_at w y (length w) refl,
+)
 
-both_last : (t u : Tree) (ts us : Trees) (v w : List ℕ) → Holds t v → Holds u w → ArePieces false ts → ArePieces false us → v ++ joined ts ≡ w ++ joined us → (t ∷ₜ ts) ≡ (u ∷ₜ us)
+both_last : (t u : Tree) (ts us : Trees) (v w : List ℕ) → Holds t v → Holds u w → ArePieces false ts → ArePieces false us → v ++ joined ts ≡ w ++ joined us
+    → (t ∷ₜ ts) ≡ (u ∷ₜ us)
 both_last t u ts us v w h k p q e =
     let a : ts ≡ no_trees = none_behind ts p in
     let b : us ≡ no_trees = none_behind us q in
@@ -65,14 +70,18 @@ too_short us v w x f n m q e =
     let c : v ++ x ≡ w = e ∙ ap (λ z. w ++ z) b ∙ append-nil w in
     n (omega (arith, ap length c, length-append v x, f, m))
 
-by_size : (t u : Tree) (ts us : Trees) (v w : List ℕ) → Holds t v → Holds u w → (f g : Bool) → nat_eq (length v) 1000 ≡ f → nat_eq (length w) 1000 ≡ g → ArePieces (nat_eq (length v) 1000) ts → ArePieces (nat_eq (length w) 1000) us → v ++ joined ts ≡ w ++ joined us → (ArePieces true ts → ArePieces true us → joined ts ≡ joined us → ts ≡ us) → (t ∷ₜ ts) ≡ (u ∷ₜ us)
+by_size : (t u : Tree) (ts us : Trees) (v w : List ℕ) → Holds t v → Holds u w → (f g : Bool) → nat_eq (length v) 1000 ≡ f → nat_eq (length w) 1000 ≡ g
+    → ArePieces (nat_eq (length v) 1000) ts → ArePieces (nat_eq (length w) 1000) us → v ++ joined ts ≡ w ++ joined us
+    → (ArePieces true ts → ArePieces true us → joined ts ≡ joined us → ts ≡ us) → (t ∷ₜ ts) ≡ (u ∷ₜ us)
 by_size t u ts us v w h k true true a b p q e more =
     let s = fronts v w (joined ts) (joined us) e (is_1000 (length v) a ∙ sym (is_1000 (length w) b)) in
     let r : ts ≡ us = more (subst (λ z. ArePieces z ts) a p) (subst (λ z. ArePieces z us) b q) s.1 in
     let x : v ≡ w = s.0 in
     rw (h.is, k.is, x, r) refl
-by_size t u ts us v w h k true false a b p q e more = absurd (too_short us v w (joined ts) (is_1000 (length v) a) (not_1000 (length w) b) k.most (subst (λ z. ArePieces z us) b q) e)
-by_size t u ts us v w h k false true a b p q e more = absurd (too_short ts w v (joined us) (is_1000 (length w) b) (not_1000 (length v) a) h.most (subst (λ z. ArePieces z ts) a p) (sym e))
+by_size t u ts us v w h k true false a b p q e more =
+    absurd (too_short us v w (joined ts) (is_1000 (length v) a) (not_1000 (length w) b) k.most (subst (λ z. ArePieces z us) b q) e)
+by_size t u ts us v w h k false true a b p q e more =
+    absurd (too_short ts w v (joined us) (is_1000 (length w) b) (not_1000 (length v) a) h.most (subst (λ z. ArePieces z ts) a p) (sym e))
 by_size t u ts us v w h k false false a b p q e more = both_last t u ts us v w h k (subst (λ z. ArePieces z ts) a p) (subst (λ z. ArePieces z us) b q) e
 
 one_cut : (ts us : Trees) → ArePieces true ts → ArePieces true us → joined ts ≡ joined us → ts ≡ us
@@ -135,12 +144,16 @@ primitive_in_cer (constructed t ts) h = inr (over_1000 ts h, ts, refl)
 one_in_cer : (t u : Tree) → IsOctetString Cer t → IsOctetString Cer u → tag_of t ≡ tag_of u → flat t ≡ flat u → t ≡ u
 unfolding joined
 one_in_cer (primitive t v) (primitive u w) h k e f = (let a : t ≡ u = e in let b : v ≡ w = sym (flat_primitive t v) ∙ f ∙ flat_primitive u w in rw (a, b) refl)
-one_in_cer (primitive t v) (constructed u us) h k e f = absurd (let l : 1000 < length (concat (segments_of us)) = over_1000 us k in let s : v ≡ concat (segments_of us) = sym (flat_primitive t v) ∙ f in omega (arith, h, l, ap length s))
-one_in_cer (constructed t ts) (primitive u w) h k e f = absurd (let l : 1000 < length (concat (segments_of ts)) = over_1000 ts h in let s : concat (segments_of ts) ≡ w = f ∙ flat_primitive u w in omega (arith, k, l, ap length s))
-one_in_cer (constructed t ts) (constructed u us) h k e f = (let a : t ≡ u = e in let b : ts ≡ us = one_cut ts us (in_cer ts h).0 (in_cer us k).0 f in rw (a, b) refl)
+one_in_cer (primitive t v) (constructed u us) h k e f = absurd (let l : 1000 < length (concat (segments_of us)) = over_1000 us k in
+    let s : v ≡ concat (segments_of us) = sym (flat_primitive t v) ∙ f in omega (arith, h, l, ap length s))
+one_in_cer (constructed t ts) (primitive u w) h k e f = absurd (let l : 1000 < length (concat (segments_of ts)) = over_1000 ts h in
+    let s : concat (segments_of ts) ≡ w = f ∙ flat_primitive u w in omega (arith, k, l, ap length s))
+one_in_cer (constructed t ts) (constructed u us) h k e f =
+    (let a : t ≡ u = e in let b : ts ≡ us = one_cut ts us (in_cer ts h).0 (in_cer us k).0 f in rw (a, b) refl)
 
 one_in_der : (t u : Tree) → IsOctetString Der t → IsOctetString Der u → tag_of t ≡ tag_of u → flat t ≡ flat u → t ≡ u
-one_in_der t u h k e f = primitive_in_der t h ∙ (let z : primitive (tag_of t) (flat t) ≡ primitive (tag_of u) (flat u) = rw (e, f) refl in z) ∙ sym (primitive_in_der u k)
+one_in_der t u h k e f =
+    primitive_in_der t h ∙ (let z : primitive (tag_of t) (flat t) ≡ primitive (tag_of u) (flat u) = rw (e, f) refl in z) ∙ sym (primitive_in_der u k)
 
 pub one_string : OneString
 one_string Ber n t u h k e f = absurd (n refl)

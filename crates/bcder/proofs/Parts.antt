@@ -16,7 +16,8 @@ length_behind header contents w n is h = let e = ap length is in grind (arith, c
 length_between : (header contents end w : List ℕ) (n : ℕ) → w ≡ header ++ (contents ++ end) → n ≤ length contents → n ≤ length w
 length_between header contents end w n is h = let e = ap length is in grind (arith, common_steps)
 
-length_of_two : (xs ys : List (List ℕ)) (v u w : List ℕ) → w ≡ v ++ u → length (concat xs) ≤ length v → length (concat ys) ≤ length u → length (concat (xs ++ ys)) ≤ length w
+length_of_two : (xs ys : List (List ℕ)) (v u w : List ℕ) → w ≡ v ++ u → length (concat xs) ≤ length v → length (concat ys) ≤ length u
+    → length (concat (xs ++ ys)) ≤ length w
 length_of_two xs ys v u w is h k =
     let e = ap length is in
     let f = ap length (concat-append xs ys) in
@@ -28,8 +29,10 @@ length_of_one contents = grind (arith, common_steps)
 mutual
   segments_shorter : (mode : Mode) (t : Tree) (w : List ℕ) → IsEncoding mode t w → length (concat (segments t)) ≤ length w
   segments_shorter mode (primitive t contents) w h = length_behind h.1.header contents w _ h.1.is (length_of_one contents)
-  segments_shorter mode (constructed t ts) w (contents, encode, inl framed) = length_behind framed.header contents w _ framed.is (all_segments_shorter mode ts contents encode)
-  segments_shorter mode (constructed t ts) w (contents, encode, inr framed) = length_between framed.header contents framed.end w _ framed.is (all_segments_shorter mode ts contents encode)
+  segments_shorter mode (constructed t ts) w (contents, encode, inl framed) =
+      length_behind framed.header contents w _ framed.is (all_segments_shorter mode ts contents encode)
+  segments_shorter mode (constructed t ts) w (contents, encode, inr framed) =
+      length_between framed.header contents framed.end w _ framed.is (all_segments_shorter mode ts contents encode)
 
   all_segments_shorter : (mode : Mode) (ts : Trees) (w : List ℕ) → AreEncodings mode ts w → length (concat (segments_of ts)) ≤ length w
   all_segments_shorter mode no_trees w h = omega arith

@@ -9,7 +9,8 @@ use Rattle.bcder.specs.declared.mode.Mode.{Mode}
 use Rattle.bcder.specs.x690.Encoding.{Header, IsEncoding}
 use Rattle.bcder.specs.x690.Tree.{Tree}
 use Rattle.bcder.specs.x690.Grammar.{IsOnly}
-use Rattle.bcder.specs.calls.Content.{Reading, Octets, Advances, Moves, Resembles, IsAtEnd, of_octets, of_definite, of_indefinite, of_unbounded, EndsBefore, NotAtEnd}
+use Rattle.bcder.specs.calls.Content.{Reading, Octets, Advances, Moves, Resembles, IsAtEnd, of_octets, of_definite}
+use Rattle.bcder.specs.calls.Content.{of_indefinite, of_unbounded, EndsBefore, NotAtEnd}
 use Rattle.bcder.specs.calls.Walking.{NoValue, PassesValue, PassedBy}
 use Rattle.bcder.specs.calls.Walking as walking
 use Rattle.bcder.specs.steps.Reading.{read_identifier, read_header}
@@ -22,7 +23,8 @@ use Rattle.bcder.proofs.Entering.{Within, used_rest}
 use Rattle.bcder.proofs.Naming.{looked_alike, ends_alike, front_named}
 
 -- octets at the front of open content were passed that are the encoding of a value
-module _ (c d : Reading) (n : ℕ) (t : Tree) (k : IsEncoding c.mode t (take n c.stream.rest)) (a : Advances c d (take n c.stream.rest)) (s : c.state ≡ Open) (e : d.state ≡ Open) where
+module _ (c d : Reading) (n : ℕ) (t : Tree) (k : IsEncoding c.mode t (take n c.stream.rest)) (a : Advances c d (take n c.stream.rest)) (s : c.state ≡ Open)
+    (e : d.state ≡ Open) where
   pub passes_encoding : PassesValue c d
   passes_encoding = record {
     tree = t;
@@ -48,7 +50,16 @@ looked_passes c d e s p = record {
 -- ---- content that was only looked at
 
 resembles_sym : (c d : Reading) → Resembles c d → Resembles d c
-resembles_sym c d s = record { rest = sym s.rest; kept = sym s.kept; owed = sym s.owed; kind = sym s.kind; state = sym s.state; mode = sym s.mode; marked = sym s.marked; name = sym s.name }
+resembles_sym c d s = record {
+  rest = sym s.rest;
+  kept = sym s.kept;
+  owed = sym s.owed;
+  kind = sym s.kind;
+  state = sym s.state;
+  mode = sym s.mode;
+  marked = sym s.marked;
+  name = sym s.name;
+}
 
 pub looked_ends : (c d : Reading) (after : List ℕ) → Resembles c d → EndsBefore d after → EndsBefore c after
 looked_ends c d after s e = ends_alike c d (looked_alike c d s) after e
@@ -60,17 +71,46 @@ pub looked_open : (c d : Reading) → Resembles c d → NotAtEnd d → NotAtEnd 
 looked_open c d s n = record { none = λ after e. n.none after (looked_ends d c after (resembles_sym c d s) e) }
 
 -- whatever a call refuses that went on from there
-module _ {E : Type 0} (c d e : Reading) (s : Resembles c d) (f : d.stream.faults ≡ c.stream.faults) (Refuses : Reading → E → Reading → Type 0) (refused : (x : E) → Refuses d x e → Refuses c x e) where
+module _ {E : Type 0} (c d e : Reading) (s : Resembles c d) (f : d.stream.faults ≡ c.stream.faults) (Refuses : Reading → E → Reading → Type 0)
+    (refused : (x : E) → Refuses d x e → Refuses c x e) where
   pub looked_by : {T : Type 0} (r : Result (Option T) E) → PassedBy Refuses d r e → PassedBy Refuses c r e
-  looked_by (Ok None) p = record { value = tt; end = looked_ends c d e.stream.rest s p.end; done = p.done; no_fault = p.no_fault ∙ f; refused = tt; failed = tt; mode = p.mode ∙ s.mode; marked = p.marked ∙ s.marked }
-  looked_by (Ok (Some x)) p = record { value = looked_passes c d e s p.value; end = tt; done = tt; no_fault = p.no_fault ∙ f; refused = tt; failed = tt; mode = p.mode ∙ s.mode; marked = p.marked ∙ s.marked }
-  looked_by (Err x) p = record { value = tt; end = tt; done = tt; no_fault = tt; refused = refused x p.refused; failed = p.failed; mode = p.mode ∙ s.mode; marked = p.marked ∙ s.marked }
+  looked_by (Ok None) p = record {
+    value = tt;
+    end = looked_ends c d e.stream.rest s p.end;
+    done = p.done;
+    no_fault = p.no_fault ∙ f;
+    refused = tt;
+    failed = tt;
+    mode = p.mode ∙ s.mode;
+    marked = p.marked ∙ s.marked;
+  }
+  looked_by (Ok (Some x)) p = record {
+    value = looked_passes c d e s p.value;
+    end = tt;
+    done = tt;
+    no_fault = p.no_fault ∙ f;
+    refused = tt;
+    failed = tt;
+    mode = p.mode ∙ s.mode;
+    marked = p.marked ∙ s.marked;
+  }
+  looked_by (Err x) p = record {
+    value = tt;
+    end = tt;
+    done = tt;
+    no_fault = tt;
+    refused = refused x p.refused;
+    failed = p.failed;
+    mode = p.mode ∙ s.mode;
+    marked = p.marked ∙ s.marked;
+  }
 
 module _ {E : Type 0} (why : E → Cause ContentError) (c d e : Reading) (s : Resembles c d) (f : d.stream.faults ≡ c.stream.faults) where
   pub looked_refused : (x : E) → walking.RefusesWalk why d x e → walking.RefusesWalk why c x e
   looked_refused x (walking.RefusesWalk.failed h o) = walking.RefusesWalk.failed (sym s.state ∙ h) o
   looked_refused x (walking.RefusesWalk.source h g) = walking.RefusesWalk.source h (subst (λ z. Grew z e.stream.faults) f g)
-  looked_refused x (walking.RefusesWalk.nothing h n q o) = walking.RefusesWalk.nothing (sym s.state ∙ h) (looked_nothing c d s n) (looked_open c d s q) (front_named c d (looked_alike c d s) (why x) o)
+  looked_refused x (walking.RefusesWalk.nothing h n q o) =
+      walking.RefusesWalk.nothing (sym s.state ∙ h) (looked_nothing c d s n) (looked_open c d s q) (front_named c d (looked_alike c d s) (why x) o)
 
   -- a call that went on from there went on from the content itself
   pub looked_next : {T : Type 0} (r : Result (Option T) E) → PassedBy (walking.RefusesWalk why) d r e → PassedBy (walking.RefusesWalk why) c r e
@@ -85,7 +125,8 @@ empty_unread m = refl
 no_empty_header : (m : Mode) (h : Header) (x : List ℕ) → read_header m [] ≡ Some (h, x) → ⊥
 no_empty_header m h x e = none_is _ (sym (empty_unread m) ∙ e)
 
-header_goes_on : (c : Reading) → Within c → c.state ≡ Open → c.kind ≢ Octets → (h : Header) (x : List ℕ) → read_header c.mode c.stream.rest ≡ Some (h, x) → NotAtEnd c
+header_goes_on : (c : Reading) → Within c → c.state ≡ Open → c.kind ≢ Octets → (h : Header) (x : List ℕ)
+    → read_header c.mode c.stream.rest ≡ Some (h, x) → NotAtEnd c
 header_goes_on c w o k h x r = record { none = λ after e. elim e [ inl y ↦ open_not_ended c.state o y | inr y ↦ at_end after y.1 ] }
   where
     some : c.stream.rest ≡ [] → ⊥
@@ -97,7 +138,8 @@ header_goes_on c w o k h x r = record { none = λ after e. elim e [ inl y ↦ op
     at_end after (of_indefinite q m) = no_marker_unread c.mode c.stream.rest after (header_no_end c.mode c.stream.rest h x r) m
     at_end after (of_unbounded q e) = some e
 
-pub looked_goes_on : (c d : Reading) → Resembles c d → d.stream.position ≡ c.stream.position → Within c → c.state ≡ Open → c.kind ≢ Octets → (h : Header) (x : List ℕ) → read_header c.mode d.stream.rest ≡ Some (h, x) → GoesOn c d
+pub looked_goes_on : (c d : Reading) → Resembles c d → d.stream.position ≡ c.stream.position → Within c → c.state ≡ Open → c.kind ≢ Octets
+    → (h : Header) (x : List ℕ) → read_header c.mode d.stream.rest ≡ Some (h, x) → GoesOn c d
 looked_goes_on c d s p w o k h x r = record {
   usable = o;
   some = header_goes_on c w o k h x (subst (λ z. read_header c.mode z ≡ Some (h, x)) s.rest r);

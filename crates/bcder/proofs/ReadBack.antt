@@ -44,7 +44,8 @@ one_read (a ∷ b ∷ ts) v w p q = one_of_texts a b ts v w p q
 pub held : (parts : List (List ℕ)) (w : List ℕ) → ReadsParts parts w → IsComplete w × AreComponentTexts parts (components w)
 held [] w p = absurd p
 held (a ∷ []) w p = absurd p
-held (a ∷ b ∷ ts) w p = (complete_held _ _ w p.octets, rw (components_held p.first p.second p.others w p.may_begin p.octets) (p.first_text, (p.second_text, p.other_texts)))
+held (a ∷ b ∷ ts) w p =
+    (complete_held _ _ w p.octets, rw (components_held p.first p.second p.others w p.may_begin p.octets) (p.first_text, (p.second_text, p.other_texts)))
 
 none_of_others : (ts : List (List ℕ)) (ns : List ℕ) → HasNoComponent ts → AreComponentTexts ts ns → ⊥
 none_of_others [] ns h p = h

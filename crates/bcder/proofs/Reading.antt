@@ -4,8 +4,33 @@ use Rattle.bcder.specs.declared.decode.error.DecodeError.{DecodeError}
 use Rattle.bcder.specs.calls.Content.{Reading}
 use Rattle.bcder.specs.calls.Readers.{HasAll, RefusesTooFew, RefusesReading, Reads}
 
-pub refuses_missing : {T X : Type 0} (Means : List ℕ → T → Type 0) (Refuses : List ℕ → DecodeError X → Type 0) (c d : Reading) (e : DecodeError X) → RefusesTooFew c e d → d.stream.rest ≡ c.stream.rest → d.owed ≡ c.owed → d.mode ≡ c.mode → d.marked ≡ c.marked → Reads Means Refuses c (Err e) d
-refuses_missing Means Refuses c d e f r o m k = record { value = tt; all = tt; none_left = tt; none_owed = tt; no_fault = tt; refused = RefusesReading.missing f; kept = r; still_owed = o; mode = m; marked = k }
+pub refuses_missing : {T X : Type 0} (Means : List ℕ → T → Type 0) (Refuses : List ℕ → DecodeError X → Type 0) (c d : Reading) (e : DecodeError X)
+    → RefusesTooFew c e d → d.stream.rest ≡ c.stream.rest → d.owed ≡ c.owed → d.mode ≡ c.mode → d.marked ≡ c.marked → Reads Means Refuses c (Err e) d
+refuses_missing Means Refuses c d e f r o m k = record {
+  value = tt;
+  all = tt;
+  none_left = tt;
+  none_owed = tt;
+  no_fault = tt;
+  refused = RefusesReading.missing f;
+  kept = r;
+  still_owed = o;
+  mode = m;
+  marked = k;
+}
 
-pub refuses_octets : {T X : Type 0} (Means : List ℕ → T → Type 0) (Refuses : List ℕ → DecodeError X → Type 0) (c d : Reading) (e : DecodeError X) → HasAll (length c.stream.rest) c → Refuses c.stream.rest e → d.stream.faults ≡ c.stream.faults → d.stream.rest ≡ c.stream.rest → d.owed ≡ c.owed → d.mode ≡ c.mode → d.marked ≡ c.marked → Reads Means Refuses c (Err e) d
-refuses_octets Means Refuses c d e a f n r o m k = record { value = tt; all = tt; none_left = tt; none_owed = tt; no_fault = tt; refused = RefusesReading.refused a f n; kept = r; still_owed = o; mode = m; marked = k }
+pub refuses_octets : {T X : Type 0} (Means : List ℕ → T → Type 0) (Refuses : List ℕ → DecodeError X → Type 0) (c d : Reading) (e : DecodeError X)
+    → HasAll (length c.stream.rest) c → Refuses c.stream.rest e → d.stream.faults ≡ c.stream.faults → d.stream.rest ≡ c.stream.rest → d.owed ≡ c.owed
+    → d.mode ≡ c.mode → d.marked ≡ c.marked → Reads Means Refuses c (Err e) d
+refuses_octets Means Refuses c d e a f n r o m k = record {
+  value = tt;
+  all = tt;
+  none_left = tt;
+  none_owed = tt;
+  no_fault = tt;
+  refused = RefusesReading.refused a f n;
+  kept = r;
+  still_owed = o;
+  mode = m;
+  marked = k;
+}

@@ -1,5 +1,6 @@
 -- Calls of a closure in a row.
-use Rattle.std.proofs.Common.{◌≡◌, ℕ, ◌+◌, ◌-◌, ◌^◌, Bool, true, false, IsTrue, ◌↔◌, List, [], ◌∷◌, ◌++◌, length, refl, ap, sym, ◌∙◌, subst, arith, length-append}
+use Rattle.std.proofs.Common.{◌≡◌, ℕ, ◌+◌, ◌-◌, ◌^◌, Bool, true, false, IsTrue, ◌↔◌, List, [], ◌∷◌, ◌++◌}
+use Rattle.std.proofs.Common.{length, refl, ap, sym, ◌∙◌, subst, arith, length-append}
 use Rattle.std.specs.Prelude.{Option, Some, None, Ok, Err}
 use Rattle.std.specs.Borrow.{MutBor}
 use Rattle.std.specs.List.{FoldsTo}
@@ -10,7 +11,8 @@ use Rattle.std.specs.declared.alloc.Global.{Global}
 use Rattle.bcder.specs.declared.decode.error.ContentError.{ContentError}
 use Rattle.bcder.specs.calls.Cause.{Cause, of_memory, IsOfContent}
 use Rattle.bcder.specs.calls.Content.{Reading, Moves}
-use Rattle.bcder.specs.calls.Repeating.{Answer, OwesAsBefore, TookNothing, Turn, Gift, values, AnswersTurn, GoesOn, LastAnswers, Repeats, ended, refused, stalled, endless, Collects, collected, not_answered, not_advanced, not_kept}
+use Rattle.bcder.specs.calls.Repeating.{Answer, OwesAsBefore, TookNothing, Turn, Gift, values, AnswersTurn, GoesOn, LastAnswers, Repeats, ended}
+use Rattle.bcder.specs.calls.Repeating.{refused, stalled, endless, Collects, collected, not_answered, not_advanced, not_kept}
 use Rattle.bcder.specs.laws.Moved.{untouched_is_moved, moved_twice_is_moved}
 
 -- what the test tells
@@ -55,7 +57,8 @@ module _ {F C T E : Type 0} (view : C → Reading) (step : F → MutBor C → An
   more_gifts : (xs : List (Gift C T)) (x : Gift C T) (n : ℕ) → length xs ≡ n → length (xs ++ (x ∷ [])) ≡ n + 1
   more_gifts xs x n e = simp length-append (omega arith)
 
-  pub went_more : (f : F) (c : Reading) (n : ℕ) (g : F) (d : Reading) (x : T) (h : F) (e : Reading) → WentOn f c n g d → Once g d (Ok (Some x)) h e → (TookNothing d e → ⊥) → Moves d e → WentOn f c (n + 1) h e
+  pub went_more : (f : F) (c : Reading) (n : ℕ) (g : F) (d : Reading) (x : T) (h : F) (e : Reading) → WentOn f c n g d → Once g d (Ok (Some x)) h e
+      → (TookNothing d e → ⊥) → Moves d e → WentOn f c (n + 1) h e
   went_more f c n g d x h e w s t m =
       let y : Gift C T = record { turn = s.0; value = x } in
       record {
@@ -65,7 +68,8 @@ module _ {F C T E : Type 0} (view : C → Reading) (step : F → MutBor C → An
         went_on = FoldsTo-push (GoesOn view step) _ w.gifts _ y _ w.went_on (record { answered = s.1; took = t });
       }
 
-  abbrev last_answers : (f : F) (c : Reading) (n : ℕ) (g : F) (d : Reading) (h : F) (e : Reading) (a : Answer T E) → WentOn f c n g d → Once g d a h e → LastAnswers view step f c a e
+  abbrev last_answers : (f : F) (c : Reading) (n : ℕ) (g : F) (d : Reading) (h : F) (e : Reading) (a : Answer T E) → WentOn f c n g d → Once g d a h e
+      → LastAnswers view step f c a e
   last_answers f c n g d h e a w s = record {
     gifts = w.gifts;
     before = record { closure = g; content = d };
@@ -86,7 +90,8 @@ module _ {F C T E : Type 0} (view : C → Reading) (step : F → MutBor C → An
   unfolding went_none
   gathered_none f c kept k = record { count = 0; went = went_none f c; holds = k }
 
-  pub gathered_more : (f : F) (c : Reading) (kept more : List T) (g : F) (d : Reading) (x : T) (h : F) (e : Reading) → Gathered f c kept g d → Once g d (Ok (Some x)) h e → (TookNothing d e → ⊥) → Moves d e → more ≡ kept ++ (x ∷ []) → Gathered f c more h e
+  pub gathered_more : (f : F) (c : Reading) (kept more : List T) (g : F) (d : Reading) (x : T) (h : F) (e : Reading) → Gathered f c kept g d
+      → Once g d (Ok (Some x)) h e → (TookNothing d e → ⊥) → Moves d e → more ≡ kept ++ (x ∷ []) → Gathered f c more h e
   unfolding went_more
   gathered_more f c kept more g d x h e w s t m k =
       let y : Gift C T = record { turn = s.0; value = x } in
@@ -97,19 +102,24 @@ module _ {F C T E : Type 0} (view : C → Reading) (step : F → MutBor C → An
       }
 
 module _ {F C E : Type 0} (why : E → Cause ContentError) (view : C → Reading) (step : F → MutBor C → Answer (Unit {0}) E → MutBor C → F → Type 0) where
-  pub repeats_ended : (f : F) (c : Reading) (n : ℕ) (g : F) (d : Reading) (h : F) (e : Reading) → WentOn view step f c n g d → Once view step g d (Ok None) h e → Repeats why view step f c (Ok tt) e
+  pub repeats_ended : (f : F) (c : Reading) (n : ℕ) (g : F) (d : Reading) (h : F) (e : Reading) → WentOn view step f c n g d → Once view step g d (Ok None) h e
+      → Repeats why view step f c (Ok tt) e
   repeats_ended f c n g d h e w s = ended refl (last_answers view step f c n g d h e (Ok None) w s)
 
-  pub repeats_refused : (f : F) (c : Reading) (n : ℕ) (g : F) (d : Reading) (h : F) (e : Reading) (x : E) → WentOn view step f c n g d → Once view step g d (Err x) h e → Repeats why view step f c (Err x) e
+  pub repeats_refused : (f : F) (c : Reading) (n : ℕ) (g : F) (d : Reading) (h : F) (e : Reading) (x : E) → WentOn view step f c n g d
+      → Once view step g d (Err x) h e → Repeats why view step f c (Err x) e
   repeats_refused f c n g d h e x w s = refused x refl (last_answers view step f c n g d h e (Err x) w s)
 
-  pub repeats_stalled : (f : F) (c : Reading) (n : ℕ) (g : F) (d : Reading) (h : F) (e : Reading) (x : E) → WentOn view step f c n g d → Once view step g d (Ok (Some tt)) h e → TookNothing d e → IsOfContent (why x) → Repeats why view step f c (Err x) e
+  pub repeats_stalled : (f : F) (c : Reading) (n : ℕ) (g : F) (d : Reading) (h : F) (e : Reading) (x : E) → WentOn view step f c n g d
+      → Once view step g d (Ok (Some tt)) h e → TookNothing d e → IsOfContent (why x) → Repeats why view step f c (Err x) e
   repeats_stalled f c n g d h e x w s t o = stalled x refl o (last_answers view step f c n g d h e (Ok (Some tt)) w s) t
 
-  pub repeats_endless : (f : F) (c : Reading) (n : ℕ) (g : F) (d : Reading) (x : E) → n ≡ 2 ^ 64 - 1 → WentOn view step f c n g d → IsOfContent (why x) → Repeats why view step f c (Err x) d
+  pub repeats_endless : (f : F) (c : Reading) (n : ℕ) (g : F) (d : Reading) (x : E) → n ≡ 2 ^ 64 - 1 → WentOn view step f c n g d → IsOfContent (why x)
+      → Repeats why view step f c (Err x) d
   repeats_endless f c n g d x k w o = endless x refl o w.gifts (w.count ∙ k) (record { closure = g; content = d }) w.went_on refl
 
-module _ {F C T E : Type 0} (why : E → Cause ContentError) (view : C → Reading) (step : F → MutBor C → Answer T E → MutBor C → F → Type 0) (f : F) (c : Reading) (kept : List T) (g : F) (d : Reading) (h : F) (e : Reading) (w : Gathered view step f c kept g d) where
+module _ {F C T E : Type 0} (why : E → Cause ContentError) (view : C → Reading) (step : F → MutBor C → Answer T E → MutBor C → F → Type 0) (f : F) (c : Reading)
+    (kept : List T) (g : F) (d : Reading) (h : F) (e : Reading) (w : Gathered view step f c kept g d) where
   pub collects_all : (v : Vec T Global) → v.items ≡ kept → Once view step g d (Ok None) h e → Collects why view step f c (Ok v) e
   collects_all v k s = collected v refl (last_answers view step f c w.count g d h e (Ok None) w.went s) (k ∙ w.holds)
 
@@ -119,5 +129,6 @@ module _ {F C T E : Type 0} (why : E → Cause ContentError) (view : C → Readi
   pub collects_stalled : (x : E) (y : T) → Once view step g d (Ok (Some y)) h e → TookNothing d e → IsOfContent (why x) → Collects why view step f c (Err x) e
   collects_stalled x y s t o = not_advanced x refl o y (last_answers view step f c w.count g d h e (Ok (Some y)) w.went s) t
 
-  pub collects_unkept : (x : E) (y : T) → Once view step g d (Ok (Some y)) h e → (TookNothing d e → ⊥) → why x ≡ of_memory → Collects why view step f c (Err x) e
+  pub collects_unkept : (x : E) (y : T) → Once view step g d (Ok (Some y)) h e → (TookNothing d e → ⊥) → why x ≡ of_memory
+      → Collects why view step f c (Err x) e
   collects_unkept x y s t o = not_kept x refl o y (last_answers view step f c w.count g d h e (Ok (Some y)) w.went s) t

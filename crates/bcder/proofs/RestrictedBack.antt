@@ -14,7 +14,8 @@ use Rattle.bcder.specs.calls.RestrictedString.{MeansRestricted}
 use Rattle.bcder.specs.calls.Meaning.{Encoded}
 use Rattle.bcder.specs.calls.StringMeaning.{StringMeans}
 use Rattle.bcder.specs.calls.TakenBack.{StandsIn}
-use Rattle.bcder.specs.calls.Valued.{HasTagged, TakesTree, WantsMemoryFor, of_value, of_header, RefusesTree, TakesNextTree, TakesOneTree, failed, source, memory, broken}
+use Rattle.bcder.specs.calls.Valued.{HasTagged, TakesTree, WantsMemoryFor, of_value, of_header, RefusesTree}
+use Rattle.bcder.specs.calls.Valued.{TakesNextTree, TakesOneTree, failed, source, memory, broken}
 use Rattle.bcder.specs.calls.WrittenStrings.{IsWrittenString}
 use Rattle.bcder.specs.calls.WrittenRestricted.{IsTakenRestricted, WrittenAsReadOf, OneRestricted}
 use Rattle.bcder.specs.laws.Complete.{only_at_front}
@@ -23,7 +24,8 @@ use Rattle.bcder.proofs.StringsBack.{string_taken, written_as_read}
 
 -- ---- taken as a string of the set, it is taken as an octet string
 
-module _ (step : Step) (X : Type 0) (t : Tag) (mode : Mode) (w : List ℕ) (e : Encoded) (accepted : IsOfSet step w) (written : IsWrittenString t mode w e) (c : Reading) (after : List ℕ) (s : StandsIn mode e.octets after c) where
+module _ (step : Step) (X : Type 0) (t : Tag) (mode : Mode) (w : List ℕ) (e : Encoded) (accepted : IsOfSet step w) (written : IsWrittenString t mode w e)
+    (c : Reading) (after : List ℕ) (s : StandsIn mode e.octets after c) where
   -- what stands in front has octets that are accepted
   accepted_there : (v : Tree) (u rest : List ℕ) (x : StringOctets) → HasTagged t c v u rest → MeansString c.mode v x → IsOfSet step (octets_of x)
   accepted_there v u rest x h m =
@@ -42,18 +44,30 @@ module _ (step : Step) (X : Type 0) (t : Tag) (mode : Mode) (w : List ℕ) (e : 
   refused_there f d (failed h i) = failed h i
   refused_there f d (source h g) = source h g
   refused_there f d (memory h there) = memory h (wanted_there there)
-  refused_there f d (broken b i) = broken (record { usable = b.usable; value = λ v u rest x h m. b.value v u rest x h (m, accepted_there v u rest x h m); absent = b.absent }) i
+  refused_there f d (broken b i) =
+      broken (record { usable = b.usable; value = λ v u rest x h m. b.value v u rest x h (m, accepted_there v u rest x h m); absent = b.absent }) i
 
-  one_there : (r : Result StringOctets (DecodeError X)) (d : Reading) → TakesOneTree t (MeansRestricted step c.mode) c r d → TakesOneTree t (MeansString c.mode) c r d
+  one_there : (r : Result StringOctets (DecodeError X)) (d : Reading) → TakesOneTree t (MeansRestricted step c.mode) c r d
+      → TakesOneTree t (MeansString c.mode) c r d
   one_there (Ok y) d x = record { value = tree_there y d x.value; no_fault = x.no_fault; refused = tt; mode = x.mode; marked = x.marked }
-  one_there (Err f) d x = record { value = tt; no_fault = tt; refused = elim x.refused [ inl n ↦ inl n | inr n ↦ inr (n.0, refused_there f d n.1) ]; mode = x.mode; marked = x.marked }
+  one_there (Err f) d x = record {
+    value = tt;
+    no_fault = tt;
+    refused = elim x.refused [ inl n ↦ inl n | inr n ↦ inr (n.0, refused_there f d n.1) ];
+    mode = x.mode;
+    marked = x.marked;
+  }
 
-  next_there : (r : Result (Option StringOctets) (DecodeError X)) (d : Reading) → TakesNextTree t (MeansRestricted step c.mode) c r d → TakesNextTree t (MeansString c.mode) c r d
+  next_there : (r : Result (Option StringOctets) (DecodeError X)) (d : Reading) → TakesNextTree t (MeansRestricted step c.mode) c r d
+      → TakesNextTree t (MeansString c.mode) c r d
   next_there (Ok None) d x = record { value = tt; none = x.none; no_fault = x.no_fault; refused = tt; failed = tt; mode = x.mode; marked = x.marked }
-  next_there (Ok (Some y)) d x = record { value = tree_there y d x.value; none = tt; no_fault = x.no_fault; refused = tt; failed = tt; mode = x.mode; marked = x.marked }
-  next_there (Err f) d x = record { value = tt; none = tt; no_fault = tt; refused = refused_there f d x.refused; failed = x.failed; mode = x.mode; marked = x.marked }
+  next_there (Ok (Some y)) d x =
+      record { value = tree_there y d x.value; none = tt; no_fault = x.no_fault; refused = tt; failed = tt; mode = x.mode; marked = x.marked }
+  next_there (Err f) d x =
+      record { value = tt; none = tt; no_fault = tt; refused = refused_there f d x.refused; failed = x.failed; mode = x.mode; marked = x.marked }
 
-pub restricted_taken : {X : Type 0} (step : Step) (t : Tag) (mode : Mode) (w : List ℕ) (e : Encoded) → IsOfSet step w → IsWrittenString t mode w e → IsTakenRestricted X step t mode w e
+pub restricted_taken : {X : Type 0} (step : Step) (t : Tag) (mode : Mode) (w : List ℕ) (e : Encoded) → IsOfSet step w → IsWrittenString t mode w e
+    → IsTakenRestricted X step t mode w e
 restricted_taken {X} step t mode w e accepted written =
     let taken = string_taken {X = X} t mode w e written in
     record {

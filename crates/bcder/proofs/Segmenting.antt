@@ -1,5 +1,6 @@
 -- Octets written in segments.
-use Rattle.std.proofs.Common.{◌≡◌, ℕ, zero, suc, ◌+◌, ◌-◌, ◌*◌, ◌^◌, ◌<◌, ◌≤◌, min, true, false, List, [], ◌∷◌, ◌++◌, length, take, drop, Option, Result, Ok, Err, refl, sym, ap, ◌∙◌, subst, append_assoc, append-nil, inl, inr, arith, IsErr, IsErrAnd, ◌⊎◌}
+use Rattle.std.proofs.Common.{◌≡◌, ℕ, zero, suc, ◌+◌, ◌-◌, ◌*◌, ◌^◌, ◌<◌, ◌≤◌, min, true, false, List, [], ◌∷◌, ◌++◌, length, take, drop, Option, Result}
+use Rattle.std.proofs.Common.{Ok, Err, refl, sym, ap, ◌∙◌, subst, append_assoc, append-nil, inl, inr, arith, IsErr, IsErrAnd, ◌⊎◌}
 use Rattle.std.specs.List.{concat}
 use Rattle.std.specs.Prelude.{IfOk, IfErr}
 use Rattle.std.specs.Io.KnownBytes.{Appends}
@@ -45,7 +46,8 @@ thousand-length = refl
 segment-length : (w : List ℕ) → length (definite octet_string_tag false w) ≡ 1 + length (definite_length (length w)) + length w
 segment-length w = definite-length octet_string_tag false w ∙ ap (λ n. n + length (definite_length (length w)) + length w) identifier-length
 
-segmented-length : (n : ℕ) (w : List ℕ) → 1000 * n ≤ length w → length (segmented n w).octets ≡ length w + (4 * n + 1 + length (definite_length (length w - 1000 * n)))
+segmented-length : (n : ℕ) (w : List ℕ) → 1000 * n ≤ length w
+    → length (segmented n w).octets ≡ length w + (4 * n + 1 + length (definite_length (length w - 1000 * n)))
 segmented-length zero w h =
     let same : length w - 1000 * 0 ≡ length w = omega arith in
     let last = ap (λ k. length (definite_length k)) same in
@@ -58,7 +60,16 @@ segmented-length (suc n) w h =
     let rest = segmented-length n (drop 1000 w) (omega (arith, behind)) in
     let same : length (drop 1000 w) - 1000 * n ≡ length w - 1000 * suc n = omega (arith, behind) in
     let last = ap (λ k. length (definite_length k)) same in
-    omega (arith, length-append (definite octet_string_tag false first) (segmented n (drop 1000 w)).octets, segment-length first, full, thousand, behind, rest, last)
+    omega (
+      arith,
+      length-append (definite octet_string_tag false first) (segmented n (drop 1000 w)).octets,
+      segment-length first,
+      full,
+      thousand,
+      behind,
+      rest,
+      last,
+    )
 
 pub segments-length : (w : List ℕ) → length (segments_in_cer w).octets ≡ segments_size (length w)
 segments-length w = segmented-length (full_segments (length w)) w (omega arith)
@@ -85,7 +96,8 @@ module _ (t : Tag) (w : List ℕ) (o : AreOctets w) where
   cut_in Der r is h = cc
 
   whole_at : (mode : Mode) (r : Result ℕ EncodeError) → is_cut mode (length w) ≡ false
-      → IfOk r (λ n. MayHaveHeader t (length w) × (n ≡ length (header t false (Definite (length w))) + length w)) → IfErr r (RefusesValueHeader t (length w)) → SizeOfValues (OctetsMean t w mode) ⊥ r
+      → IfOk r (λ n. MayHaveHeader t (length w) × (n ≡ length (header t false (Definite (length w))) + length w)) → IfErr r (RefusesValueHeader t (length w))
+      → SizeOfValues (OctetsMean t w mode) ⊥ r
   whole_at mode (Ok n) is h none =
       let fits = lt-ltb _ _ h.0.1 in
       (primitive_encoded t w, inr (h.0.0, (Ok w, (refl, o), rw (is, fits) refl)), h.1 ∙ sym (length-append (header t false (Definite (length w))) w))
@@ -94,11 +106,13 @@ module _ (t : Tag) (w : List ℕ) (o : AreOctets w) where
       let fits = le-ltb (length w) (2 ^ 32) large in
       record { meant = λ ne. inr (v, (Ok w, (refl, o), rw (is, fits) (ap Err e_is))); lacking = λ n. cc }
 
-pub cut_size : (t : Tag) (mode : Mode) (n : ℕ) (r : Result ℕ EncodeError) → is_cut mode n ≡ true → CutSize t n r → (w : List ℕ) → AreOctets w → n ≡ length w → SizeOfValues (OctetsMean t w mode) ⊥ r
+pub cut_size : (t : Tag) (mode : Mode) (n : ℕ) (r : Result ℕ EncodeError) → is_cut mode n ≡ true → CutSize t n r → (w : List ℕ) → AreOctets w → n ≡ length w
+    → SizeOfValues (OctetsMean t w mode) ⊥ r
 cut_size t mode n r is h w o e = cut_in t w o mode r (ap (is_cut mode) (sym e) ∙ is) (subst (λ k. CutSize t k r) e h)
 
 pub whole_size : (t : Tag) (mode : Mode) (n : ℕ) (r : Result ℕ EncodeError) → is_cut mode n ≡ false
-    → IfOk r (λ k. MayHaveHeader t n × (k ≡ length (header t false (Definite n)) + n)) → IfErr r (RefusesValueHeader t n) → (w : List ℕ) → AreOctets w → n ≡ length w → SizeOfValues (OctetsMean t w mode) ⊥ r
+    → IfOk r (λ k. MayHaveHeader t n × (k ≡ length (header t false (Definite n)) + n)) → IfErr r (RefusesValueHeader t n) → (w : List ℕ) → AreOctets w
+    → n ≡ length w → SizeOfValues (OctetsMean t w mode) ⊥ r
 whole_size t mode n r is ok refused w o e =
     whole_at t w o mode r (ap (is_cut mode) (sym e) ∙ is)
     (subst (λ l. IfOk r (λ k. MayHaveHeader t l × (k ≡ length (header t false (Definite l)) + l))) e ok)
@@ -132,7 +146,8 @@ segmented_begins (suc n) v k is some k_is =
     let behind = length-drop 1000 v in
     let full : length (take 1000 v) ≡ 1000 = length-take-le 1000 v (omega arith) in
     let count : n ≡ full_segments (length (drop 1000 v)) = omega (arith, behind) in
-    let more : (segmented n (drop 1000 v)).octets ≡ unwritten (drop 1000 v) = ap (λ j. (segmented j (drop 1000 v)).octets) count ∙ sym (unwritten_some (drop 1000 v) (omega (arith, behind))) in
+    let more : (segmented n (drop 1000 v)).octets ≡ unwritten (drop 1000 v) =
+    ap (λ j. (segmented j (drop 1000 v)).octets) count ∙ sym (unwritten_some (drop 1000 v) (omega (arith, behind))) in
     ap (λ j. (segment_header j ++ take 1000 v) ++ (segmented n (drop 1000 v)).octets) full
     ∙ append_assoc (segment_header 1000) (take 1000 v) (segmented n (drop 1000 v)).octets
     ∙ ap (λ l. segment_header 1000 ++ (take 1000 v ++ l)) more
@@ -154,11 +169,13 @@ module _ (p : Progress) (k : ℕ) (v : List ℕ) (none : p.left ≡ 0) (some : 0
   begin_failed h = same_octets (sym begins) (stops (to_write (record { left = k; behind = p.behind - k }) v) h)
 
 -- an error that `?` passes on
-pub begin_halts : (p : Progress) {why : WriteError} {old new : Option (List ℕ)} {f : Failed} (r : Result Progress Failed) → IsErr r × IsErrAnd r (λ d. d ≡ f) → SegmentBegun p why old new (Err f) → SegmentBegun p why old new r
+pub begin_halts : (p : Progress) {why : WriteError} {old new : Option (List ℕ)} {f : Failed} (r : Result Progress Failed) → IsErr r × IsErrAnd r (λ d. d ≡ f)
+    → SegmentBegun p why old new (Err f) → SegmentBegun p why old new r
 begin_halts p (Ok q) is h = absurd is.1
 begin_halts p (Err d) is h = h
 
-pub part_halts : (p : Progress) (part : List ℕ) {why : WriteError} {old new : Option (List ℕ)} {f : Failed} (r : Result Progress Failed) → IsErr r × IsErrAnd r (λ d. d ≡ f) → PartWritten p part why old new (Err f) → PartWritten p part why old new r
+pub part_halts : (p : Progress) (part : List ℕ) {why : WriteError} {old new : Option (List ℕ)} {f : Failed} (r : Result Progress Failed)
+    → IsErr r × IsErrAnd r (λ d. d ≡ f) → PartWritten p part why old new (Err f) → PartWritten p part why old new r
 part_halts p part (Ok q) is h = absurd is.1
 part_halts p part (Err d) is h = h
 
@@ -181,7 +198,8 @@ pub appended : {w : List ℕ} {a b : Option (List ℕ)} → Appends a b w → Wr
 appended h = record { done = h }
 
 -- and where the next one fails
-pub advanced_failed : {p q : Progress} {u v : List ℕ} {a b c : Option (List ℕ)} {e : WriteError} → Advanced p u q v a b → WroteOf ⊥ (to_write q v) b c (Err e) → WroteOf ⊥ (to_write p u) a c (Err e)
+pub advanced_failed : {p q : Progress} {u v : List ℕ} {a b c : Option (List ℕ)} {e : WriteError} → Advanced p u q v a b → WroteOf ⊥ (to_write q v) b c (Err e)
+    → WroteOf ⊥ (to_write p u) a c (Err e)
 advanced_failed x h = same_octets (sym x.is) (follows_on (appended x.appends) h)
 
 module _ (p : Progress) (k : ℕ) (w v : List ℕ) (in_segment : k ≤ p.left) (in_part : k ≤ length w) where
@@ -223,7 +241,8 @@ next_part {p} {q} {r} {u} {l} part m {a} {b} {c} e x f = advanced_on x (subst (�
 -- it was not
 pub part_failed : {p q : Progress} {u l : List ℕ} (part m : List ℕ) {a b c : Option (List ℕ)} {d : WriteError} → l ≡ part ++ m → Advanced p u q l a b
     → ((v : List ℕ) → IsProgress q (part ++ v) → WroteOf ⊥ (to_write q (part ++ v)) b c (Err d)) → WroteOf ⊥ (to_write p u) a c (Err d)
-part_failed {p} {q} {u} {l} part m {a} {b} {c} {d} e x f = advanced_failed x (subst (λ w. WroteOf ⊥ (to_write q w) b c (Err d)) (sym e) (f m (subst (IsProgress q) e x.progress)))
+part_failed {p} {q} {u} {l} part m {a} {b} {c} {d} e x f =
+    advanced_failed x (subst (λ w. WroteOf ⊥ (to_write q w) b c (Err d)) (sym e) (f m (subst (IsProgress q) e x.progress)))
 
 -- ---- octets under another name
 
@@ -265,7 +284,8 @@ in_one_piece t w Der = refl
 
 -- ---- writings of what is the same
 
-pub written_as : {M N : Meaning → Type 0} {lacks : Type 0} {a b : Option (List ℕ)} {r : Result (Unit {0}) WriteError} → N ≡ M → WritesEncoding M lacks a b r → WritesEncoding N lacks a b r
+pub written_as : {M N : Meaning → Type 0} {lacks : Type 0} {a b : Option (List ℕ)} {r : Result (Unit {0}) WriteError} → N ≡ M → WritesEncoding M lacks a b r
+    → WritesEncoding N lacks a b r
 written_as same f = λ e m. f e (subst (λ (P : Meaning → Type 0). P (Ok e)) same m)
 
 -- a string in one piece
@@ -273,11 +293,13 @@ pub whole_is : (t : Tag) (s : StringOctets) (mode : Mode) (w u : List ℕ) → w
 whole_is t s mode w u is same = ap (λ x. StringMeans t x mode) (sym is) ∙ in_one_piece t w mode ∙ ap (λ x. OctetsMean t x mode) (sym same)
 
 -- a string whose parts are written
-pub parts_are : (t : Tag) (s : StringOctets) (mode : Mode) (ps : List (List ℕ)) → (mode ≡ Cer) ⊎ (mode ≡ Der) → ps ≡ parts s → StringMeans t s mode ≡ OctetsMean t (concat ps) mode
+pub parts_are : (t : Tag) (s : StringOctets) (mode : Mode) (ps : List (List ℕ)) → (mode ≡ Cer) ⊎ (mode ≡ Der) → ps ≡ parts s
+    → StringMeans t s mode ≡ OctetsMean t (concat ps) mode
 parts_are t s mode ps form same = by_octets t s mode form ∙ ap (λ x. OctetsMean t x mode) (sym (ap concat same ∙ parts_joined s))
 
 -- a string that is written as it was cut
-pub cut_is : (t : Tag) (s : StringOctets) (mode : Mode) (kept : Kept) (ps : List (List ℕ)) → cut kept ps ≡ s → mode ≡ Ber → StringMeans t s mode ≡ ValueMeans t (constructed_meaning t mode) (KeptMeans kept mode)
+pub cut_is : (t : Tag) (s : StringOctets) (mode : Mode) (kept : Kept) (ps : List (List ℕ)) → cut kept ps ≡ s → mode ≡ Ber
+    → StringMeans t s mode ≡ ValueMeans t (constructed_meaning t mode) (KeptMeans kept mode)
 cut_is t s mode kept ps is ber =
     ap (λ x. StringMeans t x mode) (sym is)
     ∙ ap (StringMeans t (cut kept ps)) ber

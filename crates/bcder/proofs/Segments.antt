@@ -1,5 +1,6 @@
 -- Values whose headers are passed one by one: what is left of them, and of the segments that they are.
-use Rattle.std.proofs.Common.{◌≡◌, ℕ, suc, ◌+◌, ◌-◌, ◌*◌, ◌<◌, ◌≤◌, Bool, true, false, List, [], ◌∷◌, ◌++◌, length, get_or, take, drop, Option, Some, None, refl, sym, ap, subst, ◌∙◌, append_assoc, append-nil, arith, inl, inr, ap₂, take-append-drop}
+use Rattle.std.proofs.Common.{◌≡◌, ℕ, suc, ◌+◌, ◌-◌, ◌*◌, ◌<◌, ◌≤◌, Bool, true, false, List, [], ◌∷◌, ◌++◌, length, get_or, take, drop, Option, Some}
+use Rattle.std.proofs.Common.{None, refl, sym, ap, subst, ◌∙◌, append_assoc, append-nil, arith, inl, inr, ap₂, take-append-drop}
 use Rattle.std.specs.Prelude.{nat_eq, slice_range}
 use Rattle.std.specs.List.{concat}
 use Rattle.std.proofs.lemmas.List.Folds.{concat-append}
@@ -16,7 +17,8 @@ use Rattle.bcder.specs.x690.Tree.{Tree, primitive, constructed, Trees, no_trees,
 use Rattle.bcder.specs.x690.Encoding.{IsHeader, IsDefinite, IsFramed, IsEncoding, AreEncodings}
 use Rattle.bcder.specs.steps.Reading.{class_of, is_marked, read_identifier, read_header, read_length}
 use Rattle.bcder.specs.calls.Captured.{AreWhole}
-use Rattle.bcder.specs.x690.OctetString.{octet_string_tag, segments, segments_of, IsSegment, AreSegments, IsPiece, IsFull, IsLast, FollowFull, AreSegmentsIn, AreCut}
+use Rattle.bcder.specs.x690.OctetString.{octet_string_tag, segments, segments_of, IsSegment, AreSegments, IsPiece}
+use Rattle.bcder.specs.x690.OctetString.{IsFull, IsLast, FollowFull, AreSegmentsIn, AreCut}
 use Rattle.bcder.specs.steps.SegmentTable.{segment_at, segments_at, AreWithin, IsMark, AreMarks, IsNext, AreInOrder, IsTable}
 use Rattle.bcder.specs.declared.string.octet.Segment.{Segment}
 use Rattle.bcder.specs.steps.Segments.{is_octet_string, behind_header, read_segment}
@@ -99,7 +101,8 @@ four n e = grind (arith, nat_tests)
 pub is_tag : (t : Tag) → is_octet_string t ≡ true → t ≡ octet_string_tag
 is_tag t e = by_parts t.class t.number e
   where
-    by_parts : (c : Class) (n : ℕ) → is_octet_string (record { class = c; number = n }) ≡ true → ◌≡◌ {A = Tag} (record { class = c; number = n }) octet_string_tag
+    by_parts : (c : Class) (n : ℕ) → is_octet_string (record { class = c; number = n }) ≡ true
+        → ◌≡◌ {A = Tag} (record { class = c; number = n }) octet_string_tag
     by_parts universal n e = ap (λ x. record { class = universal; number = x }) (four n e)
     by_parts application n e = cc
     by_parts context_specific n e = cc
@@ -110,11 +113,13 @@ is_other t e is = (let x : false ≡ true = sym e ∙ ap is_octet_string is in c
 
 -- ---- what reading finds
 
-segment_at_header : (mode : Mode) (t : Tag) (f : Bool) (len : Length) (h x : List ℕ) → IsHeader mode t f len h → is_octet_string t ≡ true → read_segment mode (h ++ x) ≡ behind_header f len x
+segment_at_header : (mode : Mode) (t : Tag) (f : Bool) (len : Length) (h x : List ℕ) → IsHeader mode t f len h → is_octet_string t ≡ true
+    → read_segment mode (h ++ x) ≡ behind_header f len x
 unfolding read_segment
 segment_at_header mode t f len h x d e = rw (header_complete mode t f len h x d, e) refl
 
-other_at_header : (mode : Mode) (t : Tag) (f : Bool) (len : Length) (h x : List ℕ) → IsHeader mode t f len h → is_octet_string t ≡ false → read_segment mode (h ++ x) ≡ None
+other_at_header : (mode : Mode) (t : Tag) (f : Bool) (len : Length) (h x : List ℕ) → IsHeader mode t f len h → is_octet_string t ≡ false
+    → read_segment mode (h ++ x) ≡ None
 unfolding read_segment
 other_at_header mode t f len h x d e = rw (header_complete mode t f len h x d, e) refl
 
@@ -127,7 +132,8 @@ unfolding read_segment
 segment_at_end mode e x d = rw (no_header_at_end mode e x d, read_end-complete mode e x d) refl
 
 contents_there : (contents x : List ℕ) → behind_header false (Definite (length contents)) (contents ++ x) ≡ Some (Some (length contents), x)
-contents_there contents x = rw (le-ltb (length (contents ++ x)) (length contents) (omega (arith, length-append contents x)), drop_at contents x (length contents) refl) refl
+contents_there contents x =
+    rw (le-ltb (length (contents ++ x)) (length contents) (omega (arith, length-append contents x)), drop_at contents x (length contents) refl) refl
 
 -- at a value: a primitive segment; a constructed one, whose values stand behind the header; or no segment
 pub data Front (mode : Mode) (t : Tree) (w others : List ℕ) : Type 0 where
@@ -159,7 +165,8 @@ front_primitive mode t contents w x d = by_tag (is_octet_string t) refl
         (ap (read_segment mode) there ∙ segment_at_header mode t false _ d.header (contents ++ x) d.is_header e ∙ contents_there contents x)
     by_tag false e = other (ap (read_segment mode) there ∙ other_at_header mode t false _ d.header (contents ++ x) d.is_header e) (is_other t e)
 
-front_constructed : (mode : Mode) (t : Tag) (ts : Trees) (contents w x : List ℕ) → AreEncodings mode ts contents → IsFramed mode t contents w → Front mode (constructed t ts) (w ++ x) x
+front_constructed : (mode : Mode) (t : Tag) (ts : Trees) (contents w x : List ℕ) → AreEncodings mode ts contents → IsFramed mode t contents w
+    → Front mode (constructed t ts) (w ++ x) x
 front_constructed mode t ts contents w x h (inl d) = by_tag (is_octet_string t) refl
   where
     there : w ++ x ≡ d.header ++ (contents ++ x)
@@ -179,7 +186,8 @@ front_constructed mode t ts contents w x h (inr d) = by_tag (is_octet_string t) 
     by_tag true e = indefinite ts d.header contents d.end (ap (λ z. constructed z ts) (is_tag t e)) h d.is_end there
         (inl (Indefinite, subst (λ z. IsHeader mode z true Indefinite d.header) (is_tag t e) d.is_header))
         (ap (read_segment mode) there ∙ segment_at_header mode t true _ d.header (contents ++ (d.end ++ x)) d.is_header e)
-    by_tag false e = other (ap (read_segment mode) there ∙ other_at_header mode t true _ d.header (contents ++ (d.end ++ x)) d.is_header e) (λ s. is_other t e s.0)
+    by_tag false e = other (ap (read_segment mode) there ∙ other_at_header mode t true _ d.header (contents ++ (d.end ++ x)) d.is_header e)
+        (λ s. is_other t e s.0)
 
 pub front : (mode : Mode) (t : Tree) (w x : List ℕ) → IsEncoding mode t w → Front mode t (w ++ x) x
 front mode (primitive t contents) w x h = front_primitive mode t contents w x h.1
@@ -219,7 +227,8 @@ short_read : (mode : Mode) (n : ℕ) (x : List ℕ) → n < 128 → n ≤ length
 unfolding read_segment read_header read_identifier is_marked class_of read_length
 short_read mode n x l k = rw (lt-ltb n 128 l, le-ltb (length x) n k) refl
 
-pub short_segment : (mode : Mode) (w y : List ℕ) (n m : ℕ) → 2 ≤ length w → get_or w 0 0 ≡ 4 → n ≡ get_or w 1 0 → n < 128 → m ≡ 2 + n → m ≤ length w → y ≡ drop m w → read_segment mode w ≡ Some (Some n, y)
+pub short_segment : (mode : Mode) (w y : List ℕ) (n m : ℕ) → 2 ≤ length w → get_or w 0 0 ≡ 4 → n ≡ get_or w 1 0 → n < 128 → m ≡ 2 + n → m ≤ length w
+    → y ≡ drop m w → read_segment mode w ≡ Some (Some n, y)
 short_segment mode [] y n m two f e l a k is = absurd (omega arith)
 short_segment mode (b ∷ []) y n m two f e l a k is = absurd (omega arith)
 short_segment mode (b ∷ (c ∷ x)) y n m two f e l a k is =
@@ -231,11 +240,13 @@ short_segment mode (b ∷ (c ∷ x)) y n m two f e l a k is =
 
 -- ---- one with a header of four octets
 
-long_read : (mode : Mode) (h l n : ℕ) (x : List ℕ) → h * 256 + l ≡ n → 256 ≤ n → n ≤ length x → read_segment mode (4 ∷ (130 ∷ (h ∷ (l ∷ x)))) ≡ Some (Some n, drop n x)
+long_read : (mode : Mode) (h l n : ℕ) (x : List ℕ) → h * 256 + l ≡ n → 256 ≤ n → n ≤ length x
+    → read_segment mode (4 ∷ (130 ∷ (h ∷ (l ∷ x)))) ≡ Some (Some n, drop n x)
 unfolding read_segment read_header read_identifier is_marked class_of read_length
 long_read mode h l n x e k s = rw (two_read mode h l n x e k, le-ltb (length x) n s) refl
 
-pub long_segment : (mode : Mode) (w y : List ℕ) (n m : ℕ) → 4 ≤ length w → get_or w 0 0 ≡ 4 → get_or w 1 0 ≡ 130 → n ≡ get_or w 2 0 * 256 + get_or w 3 0 → 256 ≤ n → m ≡ 4 + n → m ≤ length w → y ≡ drop m w → read_segment mode w ≡ Some (Some n, y)
+pub long_segment : (mode : Mode) (w y : List ℕ) (n m : ℕ) → 4 ≤ length w → get_or w 0 0 ≡ 4 → get_or w 1 0 ≡ 130 → n ≡ get_or w 2 0 * 256 + get_or w 3 0
+    → 256 ≤ n → m ≡ 4 + n → m ≤ length w → y ≡ drop m w → read_segment mode w ≡ Some (Some n, y)
 long_segment mode [] y n m four f c e l a k is = absurd (omega arith)
 long_segment mode (b ∷ []) y n m four f c e l a k is = absurd (omega arith)
 long_segment mode (b ∷ (b2 ∷ [])) y n m four f c e l a k is = absurd (omega arith)
@@ -272,7 +283,8 @@ shorter_by : (header contents w x : List ℕ) → w ≡ header ++ (contents ++ x
 shorter_by header contents w x e two = (let s = shorter header w (contents ++ x) e two in omega (arith, s, length-append contents x))
 
 -- what is read is passed: fewer octets are left
-pub passed_shorter : (mode : Mode) (is : Items) (w after : List ℕ) (found : Option ℕ) → AreItems mode is w → 1 ≤ length w → read_segment mode w ≡ Some (found, after) → length after + 2 ≤ length w
+pub passed_shorter : (mode : Mode) (is : Items) (w after : List ℕ) (found : Option ℕ) → AreItems mode is w → 1 ≤ length w
+    → read_segment mode w ≡ Some (found, after) → length after + 2 ≤ length w
 passed_shorter mode is w after found h some r = of_turn (turn mode is w h some)
   where
     of_turn : Turn mode is w → length after + 2 ≤ length w
@@ -303,10 +315,12 @@ counts_all w h = record {
   bound = omega arith;
 }
 
-pub counts_shorter : (w rest after : List ℕ) (count : ℕ) (found : Option ℕ) → Counts w rest count → 1 ≤ length rest → read_segment Ber rest ≡ Some (found, after) → length after + 2 ≤ length rest
+pub counts_shorter : (w rest after : List ℕ) (count : ℕ) (found : Option ℕ) → Counts w rest count → 1 ≤ length rest
+    → read_segment Ber rest ≡ Some (found, after) → length after + 2 ≤ length rest
 counts_shorter w rest after count found c some r = passed_shorter Ber c.left rest after found c.items some r
 
-pub counts_piece : (w rest after : List ℕ) (count n : ℕ) → Counts w rest count → 1 ≤ length rest → read_segment Ber rest ≡ Some (Some n, after) → Counts w after (count + 1)
+pub counts_piece : (w rest after : List ℕ) (count n : ℕ) → Counts w rest count → 1 ≤ length rest → read_segment Ber rest ≡ Some (Some n, after)
+    → Counts w after (count + 1)
 counts_piece w rest after count n c some r = of_turn (turn Ber c.left rest c.items some)
   where
     of_turn : Turn Ber c.left rest → Counts w after (count + 1)
@@ -326,7 +340,8 @@ counts_piece w rest after count n c some r = of_turn (turn Ber c.left rest c.ite
     of_turn (goes header others more e f g split two k q) = absurd (let p = some_pair _ _ _ _ (sym r ∙ q) in not_none n p.0)
     of_turn (stops q x) = absurd (none_pair _ _ (sym q ∙ r))
 
-pub counts_goes : (w rest after : List ℕ) (count : ℕ) → Counts w rest count → 1 ≤ length rest → read_segment Ber rest ≡ Some (None, after) → Counts w after count
+pub counts_goes : (w rest after : List ℕ) (count : ℕ) → Counts w rest count → 1 ≤ length rest → read_segment Ber rest ≡ Some (None, after)
+    → Counts w after count
 counts_goes w rest after count c some r = of_turn (turn Ber c.left rest c.items some)
   where
     of_turn : Turn Ber c.left rest → Counts w after count
@@ -407,7 +422,8 @@ follow_pieces (t ∷ₜ (u ∷ₜ us)) h =
     let q = follow_pieces (u ∷ₜ us) h.1 in
     ((p.0, subst (λ b. ArePieces b (u ∷ₜ us)) (sym p.1) q.0), omega arith)
 
-by_size : (t u : Tree) (us : Trees) → IsPiece IsLast t → (b : Bool) → nat_eq (size_of t) 1000 ≡ b → ArePieces b (u ∷ₜ us) → (ArePieces true (u ∷ₜ us) → FollowFull (u ∷ₜ us)) → FollowFull (t ∷ₜ (u ∷ₜ us))
+by_size : (t u : Tree) (us : Trees) → IsPiece IsLast t → (b : Bool) → nat_eq (size_of t) 1000 ≡ b → ArePieces b (u ∷ₜ us)
+    → (ArePieces true (u ∷ₜ us) → FollowFull (u ∷ₜ us)) → FollowFull (t ∷ₜ (u ∷ₜ us))
 by_size t u us h true e p f = (last_piece t h e, f p)
 by_size t u us h false e p f = absurd p
 
@@ -450,11 +466,13 @@ pub record Pieces (w rest : List ℕ) (count : ℕ) (full : Bool) : Type 0 where
   pub number : count_of values ≡ count + count_of left
   pub bound : count + length rest ≤ length w
 
-pub pieces_shorter : (w rest after : List ℕ) (count : ℕ) (full : Bool) (found : Option ℕ) → Pieces w rest count full → 1 ≤ length rest → read_segment Cer rest ≡ Some (found, after) → length after + 2 ≤ length rest
+pub pieces_shorter : (w rest after : List ℕ) (count : ℕ) (full : Bool) (found : Option ℕ) → Pieces w rest count full → 1 ≤ length rest
+    → read_segment Cer rest ≡ Some (found, after) → length after + 2 ≤ length rest
 pieces_shorter w rest after count full found c some r = passed_shorter Cer (before c.left no_items) rest after found (all_items Cer c.left rest c.others) some r
 
 -- where no segment that may stand there is read, the string isn't cut so
-pub pieces_none : (w rest : List ℕ) (count : ℕ) (full : Bool) → Pieces w rest count full → 1 ≤ length rest → ((n : ℕ) (x : List ℕ) → full ≡ true → IsLast n → read_segment Cer rest ≡ Some (Some n, x) → ⊥) → AreCut Cer w → ⊥
+pub pieces_none : (w rest : List ℕ) (count : ℕ) (full : Bool) → Pieces w rest count full → 1 ≤ length rest
+    → ((n : ℕ) (x : List ℕ) → full ≡ true → IsLast n → read_segment Cer rest ≡ Some (Some n, x) → ⊥) → AreCut Cer w → ⊥
 pieces_none w rest count full c some none cut = of_left c.left full refl c.others (c.remain (in_cer c.values (subst (AreSegmentsIn Cer) same cut.1.shape)).0)
   where
     same : cut.1.values ≡ c.values
@@ -465,13 +483,16 @@ pieces_none w rest count full c some none cut = of_left c.left full refl c.other
     of_left (t ∷ₜ ts) false e h p = p
     of_left (t ∷ₜ ts) true e h p = (let q = piece_read t h.0 h.1 p.0 h.2 in none (size_of t) h.1 e q.0 (ap (read_segment Cer) h.4 ∙ q.1))
 
-pub pieces_more : (w rest after : List ℕ) (count n : ℕ) (full : Bool) → Pieces w rest count full → 1 ≤ length rest → full ≡ true → 1 ≤ n → n ≤ 1000 → read_segment Cer rest ≡ Some (Some n, after) → Pieces w after (count + 1) (nat_eq n 1000)
-pieces_more w rest after count n full c some f one most r = of_left c.left c.others (λ p. subst (λ b. ArePieces b c.left) f (c.remain p)) (λ p. c.were (subst (λ b. ArePieces b c.left) (sym f) p)) c.number
+pub pieces_more : (w rest after : List ℕ) (count n : ℕ) (full : Bool) → Pieces w rest count full → 1 ≤ length rest → full ≡ true → 1 ≤ n → n ≤ 1000
+    → read_segment Cer rest ≡ Some (Some n, after) → Pieces w after (count + 1) (nat_eq n 1000)
+pieces_more w rest after count n full c some f one most r =
+    of_left c.left c.others (λ p. subst (λ b. ArePieces b c.left) f (c.remain p)) (λ p. c.were (subst (λ b. ArePieces b c.left) (sym f) p)) c.number
   where
     shorter_here : length after + 2 ≤ length rest
     shorter_here = pieces_shorter w rest after count full (Some n) c some r
 
-    of_left : (ts : Trees) → AreEncodings Cer ts rest → (ArePieces true c.values → ArePieces true ts) → (ArePieces true ts → ArePieces true c.values) → count_of c.values ≡ count + count_of ts → Pieces w after (count + 1) (nat_eq n 1000)
+    of_left : (ts : Trees) → AreEncodings Cer ts rest → (ArePieces true c.values → ArePieces true ts) → (ArePieces true ts → ArePieces true c.values)
+        → count_of c.values ≡ count + count_of ts → Pieces w after (count + 1) (nat_eq n 1000)
     of_left no_trees h remain were number = absurd (let z = ap length h in omega arith)
     of_left (t ∷ₜ ts) h remain were number = of_front (front Cer t h.0 h.1 h.2)
       where
@@ -518,11 +539,15 @@ pieces_few w rest count full c e few cut =
     omega (arith, two, n, few)
 
 -- as where one may not stand there
-pub pieces_other : (w rest after : List ℕ) (count n : ℕ) (full : Bool) → Pieces w rest count full → 1 ≤ length rest → read_segment Cer rest ≡ Some (Some n, after) → (full ≡ true → IsLast n → ⊥) → AreCut Cer w → ⊥
-pieces_other w rest after count n full c some r bad cut = pieces_none w rest count full c some (λ m x f l q. (let p = some_pair _ _ _ _ (sym q ∙ r) in bad f (subst IsLast (number_is m n p.0) l))) cut
+pub pieces_other : (w rest after : List ℕ) (count n : ℕ) (full : Bool) → Pieces w rest count full → 1 ≤ length rest
+    → read_segment Cer rest ≡ Some (Some n, after) → (full ≡ true → IsLast n → ⊥) → AreCut Cer w → ⊥
+pieces_other w rest after count n full c some r bad cut =
+    pieces_none w rest count full c some (λ m x f l q. (let p = some_pair _ _ _ _ (sym q ∙ r) in bad f (subst IsLast (number_is m n p.0) l))) cut
 
-pub pieces_nested : (w rest after : List ℕ) (count : ℕ) (full : Bool) → Pieces w rest count full → 1 ≤ length rest → read_segment Cer rest ≡ Some (None, after) → AreCut Cer w → ⊥
-pieces_nested w rest after count full c some r cut = pieces_none w rest count full c some (λ m x f l q. (let p = some_pair _ _ _ _ (sym q ∙ r) in not_none m p.0)) cut
+pub pieces_nested : (w rest after : List ℕ) (count : ℕ) (full : Bool) → Pieces w rest count full → 1 ≤ length rest
+    → read_segment Cer rest ≡ Some (None, after) → AreCut Cer w → ⊥
+pieces_nested w rest after count full c some r cut =
+    pieces_none w rest count full c some (λ m x f l q. (let p = some_pair _ _ _ _ (sym q ∙ r) in not_none m p.0)) cut
 
 pub pieces_unread : (w rest : List ℕ) (count : ℕ) (full : Bool) → Pieces w rest count full → 1 ≤ length rest → read_segment Cer rest ≡ None → AreCut Cer w → ⊥
 pieces_unread w rest count full c some r cut = pieces_none w rest count full c some (λ m x f l q. none_pair _ _ (sym r ∙ q)) cut
@@ -553,7 +578,8 @@ contents_at : (w passed header contents after : List ℕ) (s : Segment) → w �
     → s.start ≡ length w - length after - s.len → (segment_at w s ≡ contents) × (s.start + s.len ≤ length w) × (s.start ≡ length passed + length header)
 contents_at w passed header contents after s e l b =
     let is : w ≡ (passed ++ header) ++ (contents ++ after) = e ∙ sym (append_assoc passed header (contents ++ after)) in
-    let size : length w ≡ length (passed ++ header) + (length contents + length after) = ap length is ∙ length-append (passed ++ header) (contents ++ after) ∙ ap (λ z. length (passed ++ header) + z) (length-append contents after) in
+    let size : length w ≡ length (passed ++ header) + (length contents + length after) =
+    ap length is ∙ length-append (passed ++ header) (contents ++ after) ∙ ap (λ z. length (passed ++ header) + z) (length-append contents after) in
     let at : length (passed ++ header) ≡ s.start = omega (arith, size, l, b) in
     let n : length contents ≡ s.start + s.len - s.start = omega (arith, l) in
     let d : drop s.start w ≡ contents ++ after = ap (drop s.start) is ∙ drop_at (passed ++ header) (contents ++ after) s.start at in (
@@ -626,11 +652,13 @@ fills_all mode w h = record {
   reached = refl;
 }
 
-pub fills_shorter : (mode : Mode) (w rest after : List ℕ) (table : List Segment) (found : Option ℕ) → Fills mode w rest table → 1 ≤ length rest → read_segment mode rest ≡ Some (found, after) → length after + 2 ≤ length rest
+pub fills_shorter : (mode : Mode) (w rest after : List ℕ) (table : List Segment) (found : Option ℕ) → Fills mode w rest table → 1 ≤ length rest
+    → read_segment mode rest ≡ Some (found, after) → length after + 2 ≤ length rest
 fills_shorter mode w rest after table found c some r = passed_shorter mode c.left rest after found c.items some r
 
 -- the segment that is read has room in the octets
-pub fills_room : (mode : Mode) (w rest after : List ℕ) (table : List Segment) (n : ℕ) → Fills mode w rest table → 1 ≤ length rest → read_segment mode rest ≡ Some (Some n, after) → n + length after ≤ length w
+pub fills_room : (mode : Mode) (w rest after : List ℕ) (table : List Segment) (n : ℕ) → Fills mode w rest table → 1 ≤ length rest
+    → read_segment mode rest ≡ Some (Some n, after) → n + length after ≤ length w
 fills_room mode w rest after table n c some r = of_turn (turn mode c.left rest c.items some)
   where
     of_turn : Turn mode c.left rest → n + length after ≤ length w
@@ -639,7 +667,8 @@ fills_room mode w rest after table n c some r = of_turn (turn mode c.left rest c
         let l : length contents ≡ n = number_is _ _ p.0 in
         let a : length w ≡ length c.front + (length (concat c.between) + length rest) =
         ap length c.split ∙ length-append c.front (concat c.between ++ rest) ∙ ap (λ z. length c.front + z) (length-append (concat c.between) rest) in
-        let b : length rest ≡ length header + (length contents + length others) = ap length split ∙ length-append header (contents ++ others) ∙ ap (λ z. length header + z) (length-append contents others) in
+        let b : length rest ≡ length header + (length contents + length others) =
+        ap length split ∙ length-append header (contents ++ others) ∙ ap (λ z. length header + z) (length-append contents others) in
         omega (arith, a, b, l, ap length p.1)
     of_turn (goes header others more e f g split two k q) = absurd (let p = some_pair _ _ _ _ (sym r ∙ q) in not_none _ p.0)
     of_turn (stops q x) = absurd (none_pair _ _ (sym q ∙ r))
@@ -652,7 +681,8 @@ fills_none mode w rest table c some r = of_turn (turn mode c.left rest c.items s
     of_turn (goes header others more e f g split two k q) = none_pair _ _ (sym r ∙ q)
     of_turn (stops q x) = x c.fine
 
-pub fills_goes : (mode : Mode) (w rest after : List ℕ) (table : List Segment) → Fills mode w rest table → 1 ≤ length rest → read_segment mode rest ≡ Some (None, after) → Fills mode w after table
+pub fills_goes : (mode : Mode) (w rest after : List ℕ) (table : List Segment) → Fills mode w rest table → 1 ≤ length rest
+    → read_segment mode rest ≡ Some (None, after) → Fills mode w after table
 fills_goes mode w rest after table c some r = of_turn (turn mode c.left rest c.items some)
   where
     of_turn : Turn mode c.left rest → Fills mode w after table
@@ -680,7 +710,8 @@ fills_goes mode w rest after table c some r = of_turn (turn mode c.left rest c.i
         }
     of_turn (stops q x) = absurd (none_pair _ _ (sym q ∙ r))
 
-pub fills_piece : (mode : Mode) (w rest after : List ℕ) (table : List Segment) (s : Segment) → Fills mode w rest table → 1 ≤ length rest → read_segment mode rest ≡ Some (Some s.len, after) → s.start ≡ length w - length after - s.len → Fills mode w after (table ++ s ∷ [])
+pub fills_piece : (mode : Mode) (w rest after : List ℕ) (table : List Segment) (s : Segment) → Fills mode w rest table → 1 ≤ length rest
+    → read_segment mode rest ≡ Some (Some s.len, after) → s.start ≡ length w - length after - s.len → Fills mode w after (table ++ s ∷ [])
 fills_piece mode w rest after table s c some r b = of_turn (turn mode c.left rest c.items some)
   where
     of_turn : Turn mode c.left rest → Fills mode w after (table ++ s ∷ [])
@@ -698,7 +729,8 @@ fills_piece mode w rest after table s c some r b = of_turn (turn mode c.left res
         let from : s.start ≡ end_of 0 table + length (concat c.between ++ header) =
         omega (arith, at.2, c.reached, length-append c.front (concat c.between), length-append (concat c.between) header) in
         let own : IsHeader mode octet_string_tag false (Definite s.len) header = subst (λ z. IsHeader mode octet_string_tag false (Definite z) header) n h in
-        let t : segments_at w (table ++ s ∷ []) ≡ segments_at w table ++ contents ∷ [] = map-append (segment_at w) table (s ∷ []) ∙ ap (λ z. segments_at w table ++ z ∷ []) at.0 in
+        let t : segments_at w (table ++ s ∷ []) ≡ segments_at w table ++ contents ∷ [] =
+        map-append (segment_at w) table (s ∷ []) ∙ ap (λ z. segments_at w table ++ z ∷ []) at.0 in
         record {
           values = c.values;
           encode = c.encode;
@@ -710,7 +742,8 @@ fills_piece mode w rest after table s c some r b = of_turn (turn mode c.left res
           between = [];
           marks = tt;
           split = there ∙ ap (λ z. passed ++ z) (sym (append_assoc header contents after)) ∙ sym (append_assoc passed (header ++ contents) after);
-          parts = c.parts ∙ ap (λ z. segments_at w table ++ parts_of z) e ∙ sym (append_assoc (segments_at w table) (contents ∷ []) (parts_of more)) ∙ ap (λ z. z ++ parts_of more) (sym t);
+          parts = c.parts ∙ ap (λ z. segments_at w table ++ parts_of z) e ∙ sym (append_assoc (segments_at w table) (contents ∷ []) (parts_of more))
+              ∙ ap (λ z. z ++ parts_of more) (sym t);
           within = within_more w table s c.within at.1;
           ordered = ordered_more mode w 0 table s c.ordered (record {
             marks = c.between;

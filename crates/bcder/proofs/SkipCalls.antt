@@ -1,5 +1,6 @@
 -- What skipping promises of content, by what a run over the content of a value did.
-use Rattle.std.proofs.Common.{◌≡◌, ◌≢◌, inl, inr, ℕ, ◌+◌, ◌*◌, ◌≤◌, true, false, List, [], ◌∷◌, ◌++◌, length, Option, Some, None, Ok, Err, refl, sym, ap, subst, ◌∙◌, arith, append_assoc, append-nil, length-append}
+use Rattle.std.proofs.Common.{◌≡◌, ◌≢◌, inl, inr, ℕ, ◌+◌, ◌*◌, ◌≤◌, true, false, List, [], ◌∷◌, ◌++◌, length, Option, Some, None, Ok}
+use Rattle.std.proofs.Common.{Err, refl, sym, ap, subst, ◌∙◌, arith, append_assoc, append-nil, length-append}
 use Rattle.std.specs.Prelude.{Result, IsOk, ◌⊎◌, ◌<◌}
 use Rattle.std.proofs.lemmas.List.{append_cancel_right}
 use Rattle.bcder.specs.declared.mode.Mode.{Mode}
@@ -19,7 +20,8 @@ use Rattle.bcder.specs.calls.Content.{Reading, Octets, Resembles, any, Falls, Mo
 use Rattle.bcder.specs.x690.Grammar.{IsOnly}
 use Rattle.bcder.specs.calls.Walking.{HasValue, NoValue, PassesValue, RefusesWalk, PassedBy, AnswersNext, HasValues, AllBy, Walks}
 use Rattle.bcder.specs.calls.Walking as walking
-use Rattle.bcder.specs.calls.Skipping.{Steps, Called, WereCalls, SkipsValue, RefusesSkip, SkippedBy, AnswersAll, IsShallow, AnswersSkip, AnswersValue, SkippedValueBy, RefusesOne, RefusesSkipAll, FoundMemory}
+use Rattle.bcder.specs.calls.Skipping.{Steps, Called, WereCalls, SkipsValue, RefusesSkip, SkippedBy, AnswersAll, IsShallow, AnswersSkip}
+use Rattle.bcder.specs.calls.Skipping.{AnswersValue, SkippedValueBy, RefusesOne, RefusesSkipAll, FoundMemory}
 use Rattle.bcder.specs.calls.Skipping as skipping
 use Rattle.bcder.specs.steps.Stacked.{heading, interrupt_cause, PassesCalls, IsUnderWay, IsBroken, RanBy, Breaks, by_source, by_content, by_closure, by_memory}
 use Rattle.bcder.specs.laws.Complete.{header_complete, header_size, tree_complete, only_at_front}
@@ -57,7 +59,8 @@ module _ (c d e : Reading) (k : Header) (s t : Stream) (o p : Option ℕ) (withi
     (ds : d.stream ≡ limited o s) (do' : d.owed ≡ o) (es : e.stream ≡ limited p t) (eo : e.owed ≡ p)
     (ek : e.kind ≡ d.kind) (em : e.mode ≡ d.mode) (en : e.name ≡ d.name) (ea : e.marked ≡ d.marked) where
   read_is : read_tree c.mode c.stream.rest ≡ read_contents (read_list c.mode) k.tag k.form k.len (cut o s.rest)
-  read_is = from_header c.mode k c.stream.rest (cut o s.rest) within.octets (ap (read_header c.mode) (x.advances.rest ∙ ap (λ z. x.octets ++ z.rest) ds) ∙ header_complete c.mode k.tag k.form k.len x.octets (cut o s.rest) x.is_header)
+  read_is = from_header c.mode k c.stream.rest (cut o s.rest) within.octets (ap (read_header c.mode) (x.advances.rest ∙ ap (λ z. x.octets ++ z.rest) ds)
+      ∙ header_complete c.mode k.tag k.form k.len x.octets (cut o s.rest) x.is_header)
 
   not_at_end : NotAtEnd c
   not_at_end = header_not_at_end c d.stream.rest within x.usable (header_entered c k d any refl x)
@@ -73,7 +76,8 @@ module _ (c d e : Reading) (k : Header) (s t : Stream) (o p : Option ℕ) (withi
     advances_on f = record {
       rest = passed_rest;
       owed = subst (λ z. Falls z (length g.passed) e.owed) (sym do') (subst (λ z. Falls o (length g.passed) z) (sym eo) g.falls);
-      kept = ap (λ z. z.kept) es ∙ layers_eq _ _ t.kept s.kept (sym (ap (past o) g.passes.rest ∙ past_falls o p g.passed t.rest g.falls)) g.passes.kept ∙ ap (λ z. z.kept) (sym ds);
+      kept = ap (λ z. z.kept) es ∙ layers_eq _ _ t.kept s.kept (sym (ap (past o) g.passes.rest ∙ past_falls o p g.passed t.rest g.falls)) g.passes.kept
+          ∙ ap (λ z. z.kept) (sym ds);
       faults = omega (arith, f, ap (λ z. z.faults) ds, ap (λ z. z.faults) es);
       kind = ek;
       mode = em;
@@ -85,12 +89,21 @@ module _ (c d e : Reading) (k : Header) (s t : Stream) (o p : Option ℕ) (withi
     advances_whole f = advances_trans c d e x.octets g.passed x.advances (advances_on f)
 
     -- what calls were made, those of a tree that begins so
-    pub were_calls : (u : Tree) (more : List Heading) → preorder u 0 ≡ (heading k 0 ∷ calls) ++ more → ((v : Tree) (y : List ℕ) → read_contents (read_list c.mode) k.tag k.form k.len (cut o s.rest) ≡ Some (v, y) → (more : List Heading) × (preorder v 0 ≡ (heading k 0 ∷ calls) ++ more)) → WereCalls c (heading k 0 ∷ calls) e
+    pub were_calls : (u : Tree) (more : List Heading) → preorder u 0 ≡ (heading k 0 ∷ calls) ++ more
+        → ((v : Tree) (y : List ℕ) → read_contents (read_list c.mode) k.tag k.form k.len (cut o s.rest) ≡ Some (v, y)
+        → (more : List Heading) × (preorder v 0 ≡ (heading k 0 ∷ calls) ++ more)) → WereCalls c (heading k 0 ∷ calls) e
     were_calls u more is one = record {
       some = (u, more, is);
       one = λ v w after h. one v after (sym read_is ∙ ap (read_tree c.mode) h.rest ∙ tree_complete c.mode v w after h.encodes);
-      stand = (d.stream.rest, e.stream.rest, record { len = k.len; header = x.octets; is_header = x.is_header; is = x.advances.rest }, subst (λ z. skipping.HeadersStand c.mode calls z e.stream.rest) (ap (λ z. z.rest) (sym ds)) (subst (λ z. skipping.HeadersStand c.mode calls (cut o s.rest) z) (ap (λ z. z.rest) (sym es)) g.stand));
-      twice = (let a : 2 * length calls ≤ length g.passed = g.twice in let b : 2 ≤ length x.octets = header_size c.mode k.tag k.form k.len x.octets x.is_header in omega (arith, ap length whole_rest, length-append (x.octets ++ g.passed) e.stream.rest, length-append x.octets g.passed));
+      stand = (
+        d.stream.rest,
+        e.stream.rest,
+        record { len = k.len; header = x.octets; is_header = x.is_header; is = x.advances.rest },
+        subst (λ z. skipping.HeadersStand c.mode calls z e.stream.rest) (ap (λ z. z.rest) (sym ds))
+            (subst (λ z. skipping.HeadersStand c.mode calls (cut o s.rest) z) (ap (λ z. z.rest) (sym es)) g.stand),
+      );
+      twice = (let a : 2 * length calls ≤ length g.passed = g.twice in let b : 2 ≤ length x.octets = header_size c.mode k.tag k.form k.len x.octets
+          x.is_header in omega (arith, ap length whole_rest, length-append (x.octets ++ g.passed) e.stream.rest, length-append x.octets g.passed));
       usable = λ n. (x.usable, not_at_end);
     }
 
@@ -98,7 +111,8 @@ module _ (c d e : Reading) (k : Header) (s t : Stream) (o p : Option ℕ) (withi
 
   module _ (calls : List Heading) (u : IsUnderWay c.mode k s o calls [] t p) (st : e.state ≡ Open) where
     front : Stands c.mode (finished c.mode k s o calls t p u).0 c.stream.rest (cut p t.rest)
-    front = tree_sound c.mode c.stream.rest ((finished c.mode k s o calls t p u).0, cut p t.rest) within.octets (read_is ∙ (finished c.mode k s o calls t p u).1)
+    front = tree_sound c.mode c.stream.rest ((finished c.mode k s o calls t p u).0, cut p t.rest) within.octets
+        (read_is ∙ (finished c.mode k s o calls t p u).1)
 
     front_rest : c.stream.rest ≡ front.front ++ e.stream.rest
     front_rest = front.is ∙ ap (λ y. front.front ++ y.rest) (sym es)
@@ -108,19 +122,24 @@ module _ (c d e : Reading) (k : Header) (s t : Stream) (o p : Option ℕ) (withi
       tree = (finished c.mode k s o calls t p u).0;
       value = front.front;
       has = record { usable = x.usable; encodes = front.is_encoding; rest = front_rest };
-      only = subst (λ y. IsOnly c.mode (finished c.mode k s o calls t p u).0 front.front y) (sym front_rest) (only_at_front c.mode (finished c.mode k s o calls t p u).0 front.front e.stream.rest front.is_encoding);
+      only = subst (λ y. IsOnly c.mode (finished c.mode k s o calls t p u).0 front.front y) (sym front_rest)
+          (only_at_front c.mode (finished c.mode k s o calls t p u).0 front.front e.stream.rest front.is_encoding);
       stays = st;
     }
 
     pub skips_moves : s.faults ≤ t.faults → Moves c e
     skips_moves nf =
-        let is : front.front ≡ x.octets ++ u.passes.passed = append_cancel_right front.front (x.octets ++ u.passes.passed) e.stream.rest (sym front_rest ∙ whole_rest calls u.passes) in
-        moves_value c e front.front (finished c.mode k s o calls t p u).0 false (subst (Advances c e) (sym is) (advances_whole calls u.passes nf)) front.is_encoding (λ y. ea ∙ x.unmarked ∙ y) (λ y. absurd (let w : false ≡ true = y in cc)) x.usable st
+        let is : front.front ≡ x.octets ++ u.passes.passed =
+        append_cancel_right front.front (x.octets ++ u.passes.passed) e.stream.rest (sym front_rest ∙ whole_rest calls u.passes) in
+        moves_value c e front.front (finished c.mode k s o calls t p u).0 false (subst (Advances c e) (sym is) (advances_whole calls u.passes nf))
+        front.is_encoding (λ y. ea ∙ x.unmarked ∙ y) (λ y. absurd (let w : false ≡ true = y in cc)) x.usable st
 
     skips_calls : WereCalls c (heading k 0 ∷ calls) e
     skips_calls =
-        let none : preorder (finished c.mode k s o calls t p u).0 0 ≡ (heading k 0 ∷ calls) ++ [] = (finished c.mode k s o calls t p u).2 ∙ sym (append-nil (heading k 0 ∷ calls)) in
-        were_calls calls u.passes (finished c.mode k s o calls t p u).0 [] none (λ v y r. ([], ap (λ w. preorder w 0) (ap (λ q. q.0) (some_inj _ _ (sym r ∙ (finished c.mode k s o calls t p u).1))) ∙ none))
+        let none : preorder (finished c.mode k s o calls t p u).0 0 ≡ (heading k 0 ∷ calls) ++ [] =
+        (finished c.mode k s o calls t p u).2 ∙ sym (append-nil (heading k 0 ∷ calls)) in
+        were_calls calls u.passes (finished c.mode k s o calls t p u).0 [] none
+        (λ v y r. ([], ap (λ w. preorder w 0) (ap (λ q. q.0) (some_inj _ _ (sym r ∙ (finished c.mode k s o calls t p u).1))) ∙ none))
 
     skips_value : {F : Type 0} (step : Steps F ContentError) (f g : F) → Called step f (heading k 0 ∷ calls) g → SkipsValue step c f g e
     unfolding passes
@@ -130,7 +149,8 @@ module _ (c d e : Reading) (k : Header) (s t : Stream) (o p : Option ℕ) (withi
       were = same_calls c e (heading k 0 ∷ calls) (preorder (finished c.mode k s o calls t p u).0 0) (sym (finished c.mode k s o calls t p u).2) skips_calls;
     }
 
-    pub skipped_value : {F T X : Type 0} (why : X → Cause ContentError) (step : Steps F ContentError) (f g : F) (y : T) → t.faults ≡ s.faults → d.stream.faults ≡ c.stream.faults → Called step f (heading k 0 ∷ calls) g → SkippedBy why step c f (Ok (Some y)) g e
+    pub skipped_value : {F T X : Type 0} (why : X → Cause ContentError) (step : Steps F ContentError) (f g : F) (y : T) → t.faults ≡ s.faults
+        → d.stream.faults ≡ c.stream.faults → Called step f (heading k 0 ∷ calls) g → SkippedBy why step c f (Ok (Some y)) g e
     skipped_value why step f g y nf nd called = record {
       value = skips_value step f g called;
       end = tt;
@@ -151,13 +171,19 @@ module _ (c d e : Reading) (k : Header) (s t : Stream) (o p : Option ℕ) (withi
   nothing_there : read_contents (read_list c.mode) k.tag k.form k.len (cut o s.rest) ≡ None → NoValue c
   nothing_there n = record { none = λ v w after h r. none_is (v, after) (sym (read_is ∙ n) ∙ ap (read_tree c.mode) r ∙ tree_complete c.mode v w after h) }
 
-  module _ {F X Y : Type 0} (step : Steps F ContentError) (f g : F) (why : Y → Cause ContentError) (h : Interrupt X) (y : Y) (st : e.state ≡ Failed) (nf : d.stream.faults ≡ c.stream.faults) (ends : c.state ≢ Ended)
-      (hc : IsOfContent (interrupt_cause h) → IsOfContent (why y)) (hs : interrupt_cause h ≡ of_source → why y ≡ of_source) (hm : interrupt_cause h ≡ of_memory → why y ≡ of_memory) (hx : (z : ContentError) → h ≡ interrupt.Closure z → why y ≡ of_content z) where
+  module _ {F X Y : Type 0} (step : Steps F ContentError) (f g : F) (why : Y → Cause ContentError) (h : Interrupt X) (y : Y) (st : e.state ≡ Failed)
+      (nf : d.stream.faults ≡ c.stream.faults) (ends : c.state ≢ Ended)
+      (hc : IsOfContent (interrupt_cause h) → IsOfContent (why y)) (hs : interrupt_cause h ≡ of_source → why y ≡ of_source)
+      (hm : interrupt_cause h ≡ of_memory → why y ≡ of_memory) (hx : (z : ContentError) → h ≡ interrupt.Closure z → why y ≡ of_content z) where
     refused_by : Breaks step c.mode k s o f h g t p → RefusesSkip why step c f y g e
-    refused_by (by_source calls called b j z) = skipping.RefusesSkip.by_content (heading k 0 ∷ calls) called (broken_calls calls b) (walking.RefusesWalk.source (hs j) (subst (λ n. Grew n e.stream.faults) (ap (λ q. q.faults) (sym ds) ∙ nf) (subst (λ n. Grew s.faults n) (ap (λ q. q.faults) (sym es)) z)))
-    refused_by (by_content calls called b n j) = skipping.RefusesSkip.by_content (heading k 0 ∷ calls) called (broken_calls calls b) (walking.RefusesWalk.nothing x.usable (nothing_there n) not_at_end (behind_header any c (why y) (hc j) d.stream.rest (header_entered c k d any refl x)))
-    refused_by (by_closure calls before last q z is called r b j) = skipping.RefusesSkip.by_closure before last q z called r (same_calls c e (heading k 0 ∷ calls) (before ++ last ∷ []) is (broken_calls calls b)) (hx z j)
-    refused_by (by_memory calls before last is called a l b j) = skipping.RefusesSkip.by_memory before last (subst (λ z. Called step f z g) is called) (same_calls c e (heading k 0 ∷ calls) (before ++ last ∷ []) is (broken_calls calls b)) a l (hm j)
+    refused_by (by_source calls called b j z) = skipping.RefusesSkip.by_content (heading k 0 ∷ calls) called (broken_calls calls b) (walking.RefusesWalk.source
+        (hs j) (subst (λ n. Grew n e.stream.faults) (ap (λ q. q.faults) (sym ds) ∙ nf) (subst (λ n. Grew s.faults n) (ap (λ q. q.faults) (sym es)) z)))
+    refused_by (by_content calls called b n j) = skipping.RefusesSkip.by_content (heading k 0 ∷ calls) called (broken_calls calls b)
+        (walking.RefusesWalk.nothing x.usable (nothing_there n) not_at_end (behind_header any c (why y) (hc j) d.stream.rest (header_entered c k d any refl x)))
+    refused_by (by_closure calls before last q z is called r b j) =
+        skipping.RefusesSkip.by_closure before last q z called r (same_calls c e (heading k 0 ∷ calls) (before ++ last ∷ []) is (broken_calls calls b)) (hx z j)
+    refused_by (by_memory calls before last is called a l b j) = skipping.RefusesSkip.by_memory before last (subst (λ z. Called step f z g) is called)
+        (same_calls c e (heading k 0 ∷ calls) (before ++ last ∷ []) is (broken_calls calls b)) a l (hm j)
 
     pub skipped_not : {T : Type 0} → Breaks step c.mode k s o f h g t p → SkippedBy {T = T} why step c f (Err y) g e
     skipped_not b = record {
@@ -205,31 +231,49 @@ module _ (c d e : Reading) (k : Header) (m : Mode) (s t : Stream) (o p : Option 
   of_content_mode r x = subst (λ z. RanBy step z k s o f r g t p) (sym dm ∙ i.enters.advances.mode) x
 
   pub behind_moved : {T : Type 0} (y : T) → RanBy {X = X} step m k s o f (Ok y) g t p → e.state ≡ Open → Moves c e
-  behind_moved y x st = (let r = of_content_mode (Ok y) x in skips_moves c d e k s t o p (past_within c d k i) i.enters ds do' es eo ek em en ea r.whole.0 r.whole.2 st r.faults)
+  behind_moved y x st =
+      (let r = of_content_mode (Ok y) x in skips_moves c d e k s t o p (past_within c d k i) i.enters ds do' es eo ek em en ea r.whole.0 r.whole.2 st r.faults)
 
-  pub behind_passed : {T U Y : Type 0} (why : Y → Cause ContentError) (y : T) (z : U) → RanBy {X = X} step m k s o f (Ok y) g t p → e.state ≡ Open → SkippedBy why step c f (Ok (Some z)) g e
-  behind_passed why y z x st = (let r = of_content_mode (Ok y) x in skipped_value c d e k s t o p (past_within c d k i) i.enters ds do' es eo ek em en ea r.whole.0 r.whole.2 st why step f g z r.no_fault i.enters.no_fault r.whole.1)
+  pub behind_passed : {T U Y : Type 0} (why : Y → Cause ContentError) (y : T) (z : U) → RanBy {X = X} step m k s o f (Ok y) g t p → e.state ≡ Open
+      → SkippedBy why step c f (Ok (Some z)) g e
+  behind_passed why y z x st = (let r = of_content_mode (Ok y) x in skipped_value c d e k s t o p
+      (past_within c d k i) i.enters ds do' es eo ek em en ea r.whole.0 r.whole.2 st why step f g z r.no_fault i.enters.no_fault r.whole.1)
 
   module _ {Y : Type 0} (why : Y → Cause ContentError) (h : Interrupt X) (y : Y) (st : e.state ≡ d.state)
-      (hc : IsOfContent (interrupt_cause h) → IsOfContent (why y)) (hs : interrupt_cause h ≡ of_source → why y ≡ of_source) (hm : interrupt_cause h ≡ of_memory → why y ≡ of_memory) (hx : (z : ContentError) → h ≡ interrupt.Closure z → why y ≡ of_content z) where
+      (hc : IsOfContent (interrupt_cause h) → IsOfContent (why y)) (hs : interrupt_cause h ≡ of_source → why y ≡ of_source)
+      (hm : interrupt_cause h ≡ of_memory → why y ≡ of_memory) (hx : (z : ContentError) → h ≡ interrupt.Closure z → why y ≡ of_content z) where
     pub behind_stopped : {T : Type 0} → RanBy step {T = T} m k s o f (Err h) g t p → Moves c e
-    behind_stopped x = (let r = of_content_mode (Err h) x in breaks_moves c d e k s t o p (past_within c d k i) i.enters ds do' es eo ek em en ea step f g why h y (st ∙ i.enters.opened) i.enters.no_fault (open_not_ended _ i.enters.usable) hc hs hm hx r.faults r.breaks)
+    behind_stopped x = (let r = of_content_mode (Err h) x in breaks_moves c d e k s t o p (past_within c d k i) i.enters ds do' es eo ek em en ea step f g why h
+        y (st ∙ i.enters.opened) i.enters.no_fault (open_not_ended _ i.enters.usable) hc hs hm hx r.faults r.breaks)
 
     pub behind_refused : {T U : Type 0} → RanBy step {T = T} m k s o f (Err h) g t p → SkippedBy {T = U} why step c f (Err y) g e
-    behind_refused x = (let r = of_content_mode (Err h) x in skipped_not c d e k s t o p (past_within c d k i) i.enters ds do' es eo ek em en ea step f g why h y (st ∙ i.enters.opened) i.enters.no_fault (open_not_ended _ i.enters.usable) hc hs hm hx r.breaks)
+    behind_refused x = (let r = of_content_mode (Err h) x in skipped_not c d e k s t o p (past_within c d k i) i.enters ds do' es eo ek em en ea step f g why h
+        y (st ∙ i.enters.opened) i.enters.no_fault (open_not_ended _ i.enters.usable) hc hs hm hx r.breaks)
 
 -- ---- no header was passed
 
-module _ {F X : Type 0} (why : X → Cause ContentError) (step : Steps F ContentError) (c d : Reading) (f : F) (mode : d.mode ≡ c.mode) (marked : d.marked ≡ c.marked) where
+module _ {F X : Type 0} (why : X → Cause ContentError) (step : Steps F ContentError) (c d : Reading) (f : F) (mode : d.mode ≡ c.mode)
+    (marked : d.marked ≡ c.marked) where
   pub skipped_end : {T : Type 0} → EndsAt c d → IsDone d → d.stream.faults ≡ c.stream.faults → SkippedBy {T = T} why step c f (Ok None) f d
   skipped_end a b n = record { value = tt; end = a; done = b; uncalled = refl; no_fault = n; refused = tt; failed = tt; mode = mode; marked = marked }
 
   pub skipped_none : {T : Type 0} (e : X) → Moves c d → RefusesWalk why c e d → d.state ≡ Failed → SkippedBy {T = T} why step c f (Err e) f d
-  skipped_none e m r a = record { value = tt; end = tt; done = tt; uncalled = tt; no_fault = tt; refused = skipping.RefusesSkip.by_content [] refl (no_calls c d (moved_is_no_longer c d m)) r; failed = a; mode = mode; marked = marked }
+  skipped_none e m r a = record {
+    value = tt;
+    end = tt;
+    done = tt;
+    uncalled = tt;
+    no_fault = tt;
+    refused = skipping.RefusesSkip.by_content [] refl (no_calls c d (moved_is_no_longer c d m)) r;
+    failed = a;
+    mode = mode;
+    marked = marked;
+  }
 
 -- ---- exactly where a value stands in front
 
-module _ {F X : Type 0} (why : X → Cause ContentError) (step : Steps F ContentError) (c : Reading) (f g : F) (d : Reading) (within : Within c) (sound : Grew c.stream.faults d.stream.faults → ⊥) where
+module _ {F X : Type 0} (why : X → Cause ContentError) (step : Steps F ContentError) (c : Reading) (f g : F) (d : Reading) (within : Within c)
+    (sound : Grew c.stream.faults d.stream.faults → ⊥) where
   refused_walk : (e : X) (t : Tree) (w after : List ℕ) → HasValue c t w after → RefusesWalk why c e d → ⊥
   refused_walk e t w after h (walking.RefusesWalk.failed a o) = open_not_failed c.state h.usable a
   refused_walk e t w after h (walking.RefusesWalk.source a o) = sound o
@@ -238,10 +282,13 @@ module _ {F X : Type 0} (why : X → Cause ContentError) (step : Steps F Content
   joined_calls : (calls more hs : List Heading) (h : Heading) → hs ≡ (calls ++ h ∷ []) ++ more → hs ≡ calls ++ h ∷ more
   joined_calls calls more hs h e = e ∙ append_assoc calls (h ∷ []) more
 
-  refused_value : (e : X) (t : Tree) (w after : List ℕ) → HasValue c t w after → AnswersAll step f (preorder t 0) → IsShallow (preorder t 0) ⊎ (why e ≡ of_memory → ⊥) → RefusesSkip why step c f e g d → ⊥
+  refused_value : (e : X) (t : Tree) (w after : List ℕ) → HasValue c t w after → AnswersAll step f (preorder t 0)
+      → IsShallow (preorder t 0) ⊎ (why e ≡ of_memory → ⊥) → RefusesSkip why step c f e g d → ⊥
   refused_value e t w after h a m (skipping.RefusesSkip.by_content calls called were r) = refused_walk e t w after h r
-  refused_value e t w after h a m (skipping.RefusesSkip.by_closure calls k q x called r were j) = (let o = were.one t w after h in a calls o.0 k q g x (joined_calls calls o.0 (preorder t 0) k o.1) called r)
-  refused_value e t w after h a (inl m) (skipping.RefusesSkip.by_memory calls k called were b l j) = (let o = were.one t w after h in let y : k.depth < 4 = m calls o.0 k (joined_calls calls o.0 (preorder t 0) k o.1) b in let z : 4 ≤ k.depth = l in absurd (omega arith))
+  refused_value e t w after h a m (skipping.RefusesSkip.by_closure calls k q x called r were j) =
+      (let o = were.one t w after h in a calls o.0 k q g x (joined_calls calls o.0 (preorder t 0) k o.1) called r)
+  refused_value e t w after h a (inl m) (skipping.RefusesSkip.by_memory calls k called were b l j) = (let o = were.one t w after h in
+      let y : k.depth < 4 = m calls o.0 k (joined_calls calls o.0 (preorder t 0) k o.1) b in let z : 4 ≤ k.depth = l in absurd (omega arith))
   refused_value e t w after h a (inr m) (skipping.RefusesSkip.by_memory calls k called were b l j) = m j
 
   failed_end : (after : List ℕ) → EndsBefore c after → c.state ≡ Failed → ⊥
@@ -276,36 +323,43 @@ module _ {F X : Type 0} (why : X → Cause ContentError) (step : Steps F Content
 -- ---- a value that has to be there
 
 module _ {F S : Type 0} (step : Steps F ContentError) (c : Reading) (f g : F) (d : Reading) where
-  pub value_refused : {T U : Type 0} (e : DecodeError S) → SkippedBy {T = T} {X = DecodeError S} cause_of step c f (Err e) g d → SkippedValueBy {T = U} {S = S} step c f (Err e) g d
+  pub value_refused : {T U : Type 0} (e : DecodeError S) → SkippedBy {T = T} {X = DecodeError S} cause_of step c f (Err e) g d
+      → SkippedValueBy {T = U} {S = S} step c f (Err e) g d
   value_refused e s = record { value = tt; no_fault = tt; refused = inr (s.failed, s.refused); mode = s.mode; marked = s.marked }
 
 -- where one is there, it is passed
 module _ {F S T U : Type 0} (step : Steps F ContentError) (c : Reading) (f : F) (d : Reading) where
-  pub exact_some : (x : T) (y : U) → AnswersSkip {X = DecodeError S} cause_of step c f (Ok (Some x)) d → AnswersValue {X = DecodeError S} cause_of step c f (Ok y) d
+  pub exact_some : (x : T) (y : U) → AnswersSkip {X = DecodeError S} cause_of step c f (Ok (Some x)) d
+      → AnswersValue {X = DecodeError S} cause_of step c f (Ok y) d
   exact_some x y s = record { found = λ t w after h n m. (s.found t w after h n (inr (λ z. z))).1 }
 
-  pub exact_none : (e : DecodeError S) → AnswersSkip {T = T} {X = DecodeError S} cause_of step c f (Ok None) d → AnswersValue {T = U} {X = DecodeError S} cause_of step c f (Err e) d
+  pub exact_none : (e : DecodeError S) → AnswersSkip {T = T} {X = DecodeError S} cause_of step c f (Ok None) d
+      → AnswersValue {T = U} {X = DecodeError S} cause_of step c f (Err e) d
   exact_none e s = record { found = λ t w after h n m. absurd (let x : false ≡ true = (s.found t w after h n (inr (λ z. z))).0 in cc) }
 
-  pub exact_refused : (e : DecodeError S) → AnswersSkip {T = T} {X = DecodeError S} cause_of step c f (Err e) d → AnswersValue {T = U} {X = DecodeError S} cause_of step c f (Err e) d
+  pub exact_refused : (e : DecodeError S) → AnswersSkip {T = T} {X = DecodeError S} cause_of step c f (Err e) d
+      → AnswersValue {T = U} {X = DecodeError S} cause_of step c f (Err e) d
   exact_refused e s = record { found = λ t w after h n m. absurd (s.found t w after h n m).0 }
 
 -- ---- without a closure
 
 module _ {X : Type 0} (why : X → Cause ContentError) (c d e : Reading) where
   -- a value that was passed at once
-  pub one_at_once : {T : Type 0} (x : T) → PassesValue c d → d.stream.faults ≡ c.stream.faults → d.mode ≡ c.mode → d.marked ≡ c.marked → PassedBy {E = X} (RefusesOne why) c (Ok (Some x)) d
+  pub one_at_once : {T : Type 0} (x : T) → PassesValue c d → d.stream.faults ≡ c.stream.faults → d.mode ≡ c.mode → d.marked ≡ c.marked
+      → PassedBy {E = X} (RefusesOne why) c (Ok (Some x)) d
   one_at_once x p n m k = record { value = p; end = tt; done = tt; no_fault = n; refused = tt; failed = tt; mode = m; marked = k }
 
   -- and one that was refused at once
-  pub refused_at_once : {T : Type 0} (x : X) → RefusesOne why c x d → d.state ≡ Failed → d.mode ≡ c.mode → d.marked ≡ c.marked → PassedBy {T = T} (RefusesOne why) c (Err x) d
+  pub refused_at_once : {T : Type 0} (x : X) → RefusesOne why c x d → d.state ≡ Failed → d.mode ≡ c.mode → d.marked ≡ c.marked
+      → PassedBy {T = T} (RefusesOne why) c (Err x) d
   refused_at_once x r f m k = record { value = tt; end = tt; done = tt; no_fault = tt; refused = r; failed = f; mode = m; marked = k }
 
   -- content that was only looked at before
   looked_calls : Resembles c d → (calls : List Heading) → WereCalls d calls e → WereCalls c calls e
   looked_calls s calls w = record {
     some = w.some;
-    one = λ t v after h. w.one t v after (record { usable = s.state ∙ h.usable; encodes = subst (λ m. IsEncoding m t v) (sym s.mode) h.encodes; rest = s.rest ∙ h.rest });
+    one = λ t v after h. w.one t v after
+        (record { usable = s.state ∙ h.usable; encodes = subst (λ m. IsEncoding m t v) (sym s.mode) h.encodes; rest = s.rest ∙ h.rest });
     stand = subst (λ m. skipping.HeadersFrom m calls c.stream.rest) s.mode (subst (λ z. skipping.HeadersFrom d.mode calls z) s.rest w.stand);
     twice = (let y : 2 * length calls + length e.stream.rest ≤ length d.stream.rest = w.twice in omega (arith, ap length s.rest));
     usable = λ n. (sym s.state ∙ (w.usable n).0, looked_open c d s (w.usable n).1);
@@ -313,9 +367,11 @@ module _ {X : Type 0} (why : X → Cause ContentError) (c d e : Reading) where
 
   looked_one : Resembles c d → d.stream.faults ≡ c.stream.faults → (y : X) → RefusesOne why d y e → RefusesOne why c y e
   looked_one s f y (skipping.RefusesOne.by_walk r) = skipping.RefusesOne.by_walk (looked_refused why c d e s f y r)
-  looked_one s f y (skipping.RefusesOne.by_depth g j) = skipping.RefusesOne.by_depth (record { calls = g.calls; last = g.last; were = looked_calls s (g.calls ++ g.last ∷ []) g.were; constructed = g.constructed; deep = g.deep }) j
+  looked_one s f y (skipping.RefusesOne.by_depth g j) = skipping.RefusesOne.by_depth
+      (record { calls = g.calls; last = g.last; were = looked_calls s (g.calls ++ g.last ∷ []) g.were; constructed = g.constructed; deep = g.deep }) j
 
-  pub looked_skipped : {T : Type 0} (r : Result (Option T) X) → Resembles c d → d.stream.faults ≡ c.stream.faults → PassedBy (RefusesOne why) d r e → PassedBy (RefusesOne why) c r e
+  pub looked_skipped : {T : Type 0} (r : Result (Option T) X) → Resembles c d → d.stream.faults ≡ c.stream.faults → PassedBy (RefusesOne why) d r e
+      → PassedBy (RefusesOne why) c r e
   looked_skipped r s f = looked_by c d e s f (RefusesOne why) (looked_one s f) r
 
 -- where memory was found, refusals are those of a walk
@@ -323,21 +379,24 @@ walk_of_one : {S : Type 0} (c d : Reading) (e : DecodeError S) → (cause_of e �
 walk_of_one c d e n (skipping.RefusesOne.by_walk r) = r
 walk_of_one c d e n (skipping.RefusesOne.by_depth g j) = absurd (n j)
 
-pub one_exact : {S T : Type 0} (c d : Reading) (r : Result (Option T) (DecodeError S)) → Within c → PassedBy (RefusesOne cause_of) c r d → FoundMemory r → (Grew c.stream.faults d.stream.faults → ⊥) → AnswersNext c r d
+pub one_exact : {S T : Type 0} (c d : Reading) (r : Result (Option T) (DecodeError S)) → Within c → PassedBy (RefusesOne cause_of) c r d → FoundMemory r
+    → (Grew c.stream.faults d.stream.faults → ⊥) → AnswersNext c r d
 one_exact c d (Ok None) w s m n = answers_next cause_of c d (Ok None) w tt s.end tt n
 one_exact c d (Ok (Some x)) w s m n = answers_next cause_of c d (Ok (Some x)) w s.value tt tt n
 one_exact c d (Err e) w s m n = answers_next cause_of c d (Err e) w tt tt (walk_of_one c d e m s.refused) n
 
 -- ---- all values
 
-pub loop_refused : {X : Type 0} (why : X → Cause ContentError) (e : X) (i j k : Reading) → i.kind ≢ Octets → Walks i j → RefusesOne why j e k → RefusesSkipAll why i e k
+pub loop_refused : {X : Type 0} (why : X → Cause ContentError) (e : X) (i j k : Reading) → i.kind ≢ Octets → Walks i j → RefusesOne why j e k
+    → RefusesSkipAll why i e k
 loop_refused why e i j k o w (skipping.RefusesOne.by_walk r) = skipping.RefusesSkipAll.by_values (walks_refused why e i j k o w r)
 loop_refused why e i j k o w (skipping.RefusesOne.by_depth g h) = skipping.RefusesSkipAll.by_depth j w g h
 
 octets_no_values : (c : Reading) → c.kind ≡ Octets → HasValues c → ⊥
 octets_no_values c k h = (let x : ⊥ = subst (λ z. walking.ClosesBefore z c.mode c.owed h.all h.after) k h.closes in x)
 
-pub all_exact : {S T : Type 0} (c d : Reading) (r : Result T (DecodeError S)) → AllBy (RefusesSkipAll cause_of) c r d → (Grew c.stream.faults d.stream.faults → ⊥) → FoundMemory r → c.state ≡ Open → HasValues c → IsOk r
+pub all_exact : {S T : Type 0} (c d : Reading) (r : Result T (DecodeError S)) → AllBy (RefusesSkipAll cause_of) c r d
+    → (Grew c.stream.faults d.stream.faults → ⊥) → FoundMemory r → c.state ≡ Open → HasValues c → IsOk r
 all_exact c d (Ok x) s n m o h = refl
 all_exact c d (Err e) s n m o h = absurd (go s.refused)
   where

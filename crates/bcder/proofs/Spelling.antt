@@ -1,7 +1,8 @@
 -- Octets put together for the components of a text.
 use Rattle.std.proofs.Common.{◌≡◌, ℕ, List, [], ◌∷◌, ◌++◌, refl, ap, ◌∙◌, append_assoc, inl, inr}
 use Rattle.bcder.specs.x690.ObjectIdentifier.{IsSubidentifier}
-use Rattle.bcder.specs.calls.IdentifierText.{between_dots, IsComponentText, IsNoComponent, IsTextOf, MayBegin, RefusesTexts, RefusesText, ReadsParts, RefusesParts}
+use Rattle.bcder.specs.calls.IdentifierText.{between_dots, IsComponentText, IsNoComponent, IsTextOf, MayBegin}
+use Rattle.bcder.specs.calls.IdentifierText.{RefusesTexts, RefusesText, ReadsParts, RefusesParts}
 use Rattle.bcder.specs.calls.IdentifierText.RefusesTexts.{other_is_none, no_memory}
 use Rattle.bcder.specs.declared.oid.text.OidError.{OidError}
 use Rattle.bcder.specs.declared.oid.text.OidError.TheVariants.{NotInteger, NoMemory}
@@ -12,7 +13,8 @@ pub spelled_none : AreSpelled [] []
 spelled_none = ([], tt, refl)
 
 -- the octets of a text, before those of the texts after it
-pub spelled_more : (t : List ℕ) (ts : List (List ℕ)) (n : ℕ) (v w : List ℕ) → IsComponentText t n → IsSubidentifier n v → AreSpelled ts w → AreSpelled (t ∷ ts) (v ++ w)
+pub spelled_more : (t : List ℕ) (ts : List (List ℕ)) (n : ℕ) (v w : List ℕ) → IsComponentText t n → IsSubidentifier n v → AreSpelled ts w
+    → AreSpelled (t ∷ ts) (v ++ w)
 spelled_more t ts n v w c s (ns, texts, octets) = (n ∷ ns, (c, texts), (v, w, s, octets, refl))
 
 -- why texts are refused, those behind a component are
@@ -34,12 +36,19 @@ module _ (all ts us : List (List ℕ)) (t : List ℕ) (split : us ≡ t ∷ ts) 
 
   module _ (old mid new : List ℕ) (n : ℕ) where
     -- one text more
-    pub pushed_more : IsComponentText t n → (pushed : AppendsSubidentifier mid new n) → (done : (v : List ℕ) × (mid ≡ old ++ v) × ((w : List ℕ) → AreSpelled us w → AreSpelled all (v ++ w)) × RefusedWith us all) → (v : List ℕ) × (new ≡ old ++ v) × ((w : List ℕ) → AreSpelled ts w → AreSpelled all (v ++ w)) × RefusedWith ts all
-    pushed_more c (x, s, e) (v, d, goes, refused) =
-        (v ++ x, e ∙ ap (λ l. l ++ x) d ∙ append_assoc old v x, λ w h. rw append_assoc (goes (x ++ w) (rw split (spelled_more t ts n x w c s h))), refused_later n c refused)
+    pub pushed_more : IsComponentText t n → (pushed : AppendsSubidentifier mid new n)
+        → (done : (v : List ℕ) × (mid ≡ old ++ v) × ((w : List ℕ) → AreSpelled us w → AreSpelled all (v ++ w)) × RefusedWith us all)
+        → (v : List ℕ) × (new ≡ old ++ v) × ((w : List ℕ) → AreSpelled ts w → AreSpelled all (v ++ w)) × RefusedWith ts all
+    pushed_more c (x, s, e) (v, d, goes, refused) = (
+      v ++ x,
+      e ∙ ap (λ l. l ++ x) d ∙ append_assoc old v x,
+      λ w h. rw append_assoc (goes (x ++ w) (rw split (spelled_more t ts n x w c s h))),
+      refused_later n c refused,
+    )
 
 -- why the texts after the first two are refused, all are
-pub others_refused : {a b : List ℕ} {ts : List (List ℕ)} {m n : ℕ} {e : OidError} → IsComponentText a m → IsComponentText b n → MayBegin m n → RefusesOthers ts e → RefusesTexts a b ts e
+pub others_refused : {a b : List ℕ} {ts : List (List ℕ)} {m n : ℕ} {e : OidError} → IsComponentText a m → IsComponentText b n → MayBegin m n
+    → RefusesOthers ts e → RefusesTexts a b ts e
 others_refused {m = m} {n = n} s t may (inl h) = other_is_none m n h.0 s t may h.1
 others_refused {m = m} {n = n} s t may (inr (h, ns, texts)) = no_memory m n ns h s t may texts
 

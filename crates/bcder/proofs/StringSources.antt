@@ -1,5 +1,6 @@
 -- Segments that come one after the other, and octets that are joined in front of them.
-use Rattle.std.proofs.Common.{◌≡◌, ℕ, zero, suc, ◌+◌, ◌-◌, ◌<◌, ◌≤◌, ◌^◌, List, [], ◌∷◌, ◌++◌, length, drop, slice_range, refl, sym, ap, ◌∙◌, subst, append_assoc, length-take-le, arith}
+use Rattle.std.proofs.Common.{◌≡◌, ℕ, zero, suc, ◌+◌, ◌-◌, ◌<◌, ◌≤◌, ◌^◌, List, [], ◌∷◌, ◌++◌, length, drop, slice_range}
+use Rattle.std.proofs.Common.{refl, sym, ap, ◌∙◌, subst, append_assoc, length-take-le, arith}
 use Rattle.std.specs.List.{concat}
 use Rattle.std.proofs.lemmas.List.{length-append, length-drop, drop-append-le}
 use Rattle.bcder.specs.declared.string.octet.Segment.{Segment}
@@ -35,7 +36,8 @@ passed_fit k w x h = omega (arith, length-append w x, length-append (drop k w) x
 -- ---- parts that are joined
 
 -- one more part
-pub joined_on : (block part : List ℕ) {more all : List ℕ} {ps qs : List (List ℕ)} → more ≡ block ++ part → ps ≡ part ∷ qs → block ++ concat ps ≡ all → more ++ concat qs ≡ all
+pub joined_on : (block part : List ℕ) {more all : List ℕ} {ps qs : List (List ℕ)} → more ≡ block ++ part → ps ≡ part ∷ qs → block ++ concat ps ≡ all
+    → more ++ concat qs ≡ all
 joined_on block part {more} {all} {ps} {qs} is next so_far =
     ap (λ w. w ++ concat qs) is ∙ append_assoc block part (concat qs) ∙ ap (λ l. block ++ concat l) (sym next) ∙ so_far
 

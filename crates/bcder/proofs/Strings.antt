@@ -23,7 +23,8 @@ use Rattle.bcder.specs.calls.CapturingValues as capturing
 use Rattle.bcder.specs.calls.StringOctets.{StringOctets, whole, cut, MeansString}
 use Rattle.bcder.specs.x690.OctetString.{segments_of, AreSegmentsIn, MayBeWhole, AreCut}
 use Rattle.bcder.specs.steps.SegmentTable.{segments_at, IsTable}
-use Rattle.bcder.specs.calls.Valued.{HoldsOctets, HoldsValues, HoldsNone, ReadsTree, NeedsMemory, RefusesToRead, ReadsContent, HasTagged, HasNoTree, WantsMemoryFor, RefusesTree, TakesNextTree}
+use Rattle.bcder.specs.calls.Valued.{HoldsOctets, HoldsValues, HoldsNone, ReadsTree, NeedsMemory, RefusesToRead, ReadsContent}
+use Rattle.bcder.specs.calls.Valued.{HasTagged, HasNoTree, WantsMemoryFor, RefusesTree, TakesNextTree}
 use Rattle.bcder.specs.calls.Valued as valued
 use Rattle.bcder.specs.laws.Lists.{empty_list}
 use Rattle.bcder.proofs.Moving.{open_not_ended, open_not_failed}
@@ -53,7 +54,8 @@ limit_is None n e = (let x : ◌≡◌ {A = Option ℕ} None (Some n) = e in cc)
 limit_is (Some m) n e = some_is m n e
 
 -- a string in one piece that is too long in CER
-too_long : (mode : Mode) (tag : Tag) (c : Reading) → mode ≡ Cer → 1000 < limit_or c.owed 0 → c.kind ≡ Octets → c.state ≡ Open → HoldsNone tag (MeansString mode) c
+too_long : (mode : Mode) (tag : Tag) (c : Reading) → mode ≡ Cer → 1000 < limit_or c.owed 0 → c.kind ≡ Octets → c.state ≡ Open
+    → HoldsNone tag (MeansString mode) c
 too_long mode tag c m l k o (primitive t contents) x h means =
     let w : length contents ≤ 1000 = subst (λ z. MayBeWhole z contents) m means.0 in
     omega (arith, l, limit_is c.owed (length contents) h.1.owed, w)
@@ -71,10 +73,15 @@ done_octets : (d : Reading) → d.kind ≡ Octets → d.state ≡ Open → d.owe
 done_octets d k o e = inr (o, subst (λ f. IsUsedUp f d.owed d.stream.rest) (sym k) e)
 
 -- what is answered of contents octets
-read_whole : {X : Type 0} (tag : Tag) (c d : Reading) (b : List ℕ) → Reads {X = X} (λ w b. b ≡ w) FindNoMemory c (Ok b) d → (c.kind ≡ Octets) × (c.state ≡ Open) → (d.kind ≡ Octets) × (d.state ≡ Open) → (c.mode ≡ Cer → limit_or c.owed 0 ≤ 1000) → ReadsContent tag (MeansPiece c.mode) {X = X} c (Ok b) d
+read_whole : {X : Type 0} (tag : Tag) (c d : Reading) (b : List ℕ) → Reads {X = X} (λ w b. b ≡ w) FindNoMemory c (Ok b) d → (c.kind ≡ Octets) × (c.state ≡ Open)
+    → (d.kind ≡ Octets) × (d.state ≡ Open) → (c.mode ≡ Cer → limit_or c.owed 0 ≤ 1000) → ReadsContent tag (MeansPiece c.mode) {X = X} c (Ok b) d
 read_whole tag c d b r k l most =
     record {
-      value = record { tree = primitive tag c.stream.rest; holds = (refl, record { usable = k.1; form = k.0; owed = r.all.owed; rest = refl }); means = (all_whole c most r.all, ap whole r.value) };
+      value = record {
+        tree = primitive tag c.stream.rest;
+        holds = (refl, record { usable = k.1; form = k.0; owed = r.all.owed; rest = refl });
+        means = (all_whole c most r.all, ap whole r.value);
+      };
       done = done_octets d l.0 l.1 r.none_owed;
       no_fault = r.no_fault;
       refused = tt;
@@ -82,7 +89,8 @@ read_whole tag c d b r k l most =
       marked = r.marked;
     }
 
-pub long_none : (tag : Tag) (c : Reading) → (c.kind ≡ Octets) × (c.state ≡ Open) → ((c.mode ≡ Cer → limit_or c.owed 0 ≤ 1000) → ⊥) → HoldsNone tag (MeansPiece c.mode) c
+pub long_none : (tag : Tag) (c : Reading) → (c.kind ≡ Octets) × (c.state ≡ Open) → ((c.mode ≡ Cer → limit_or c.owed 0 ≤ 1000) → ⊥)
+    → HoldsNone tag (MeansPiece c.mode) c
 long_none tag c k long = by_mode c.mode refl
   where
     by_mode : (m : Mode) → c.mode ≡ m → HoldsNone tag (MeansPiece c.mode) c
@@ -93,28 +101,37 @@ long_none tag c k long = by_mode c.mode refl
         not_most n f = elim (cases_lt 1000 n) [ inl l ↦ l | inr l ↦ absurd (f l) ]
     by_mode Der m = absurd (long (λ q. (let x : ◌≡◌ {A = Mode} Der Cer = sym m ∙ q in cc)))
 
-pub refuse_long : {X : Type 0} (tag : Tag) (c : Reading) (e : DecodeError X) → IsRefusal e → (c.kind ≡ Octets) × (c.state ≡ Open) → ((c.mode ≡ Cer → limit_or c.owed 0 ≤ 1000) → ⊥) → ReadsContent tag (MeansPiece c.mode) c (Err e) c
-refuse_long tag c e a k long = record { value = tt; done = tt; no_fault = tt; refused = valued.RefusesToRead.nothing (long_none tag c k long) a; mode = refl; marked = refl }
+pub refuse_long : {X : Type 0} (tag : Tag) (c : Reading) (e : DecodeError X) → IsRefusal e → (c.kind ≡ Octets) × (c.state ≡ Open)
+    → ((c.mode ≡ Cer → limit_or c.owed 0 ≤ 1000) → ⊥) → ReadsContent tag (MeansPiece c.mode) c (Err e) c
+refuse_long tag c e a k long =
+    record { value = tt; done = tt; no_fault = tt; refused = valued.RefusesToRead.nothing (long_none tag c k long) a; mode = refl; marked = refl }
 
 pub too_few : {T : Type 0} (tag : Tag) (Means : Tree → T → Type 0) (c : Reading) → c.kind ≡ Octets → c.state ≡ Open → IsShort c → HoldsNone tag Means c
 too_few tag Means c k o s (primitive t contents) x h means = omega (arith, s.short (length contents) h.1.owed, ap length h.1.rest)
 too_few tag Means c k o s (constructed t ts) x h means = not_values c ts k o h.1
 
-refused_octets : {X : Type 0} (tag : Tag) (c d : Reading) (e : DecodeError X) → c.kind ≡ Octets → c.state ≡ Open → (c.mode ≡ Cer → limit_or c.owed 0 ≤ 1000) → RefusesReading (λ w (b : List ℕ). b ≡ w) FindNoMemory c e d → RefusesToRead tag (MeansPiece c.mode) c e d
+refused_octets : {X : Type 0} (tag : Tag) (c d : Reading) (e : DecodeError X) → c.kind ≡ Octets → c.state ≡ Open → (c.mode ≡ Cer → limit_or c.owed 0 ≤ 1000)
+    → RefusesReading (λ w (b : List ℕ). b ≡ w) FindNoMemory c e d → RefusesToRead tag (MeansPiece c.mode) c e d
 refused_octets tag c d e k o most (readers.RefusesReading.missing (readers.RefusesTooFew.source s g)) = valued.RefusesToRead.source s g
 refused_octets tag c d e k o most (readers.RefusesReading.missing (readers.RefusesTooFew.few s a n)) = valued.RefusesToRead.nothing (too_few tag _ c k o s) a
-refused_octets tag c d e k o most (readers.RefusesReading.refused h a n) = valued.RefusesToRead.memory a (valued.NeedsMemory.of_octets c.stream.rest c.stream.rest (all_held c k o h) (all_whole c most h, refl))
+refused_octets tag c d e k o most (readers.RefusesReading.refused h a n) =
+    valued.RefusesToRead.memory a (valued.NeedsMemory.of_octets c.stream.rest c.stream.rest (all_held c k o h) (all_whole c most h, refl))
 
-refuse_octets : {X : Type 0} (tag : Tag) (c d : Reading) (e : DecodeError X) → Reads (λ w (b : List ℕ). b ≡ w) FindNoMemory c (Err e) d → (c.kind ≡ Octets) × (c.state ≡ Open) → (c.mode ≡ Cer → limit_or c.owed 0 ≤ 1000) → ReadsContent tag (MeansPiece c.mode) c (Err e) d
-refuse_octets tag c d e r k most = record { value = tt; done = tt; no_fault = tt; refused = refused_octets tag c d e k.0 k.1 most r.refused; mode = r.mode; marked = r.marked }
+refuse_octets : {X : Type 0} (tag : Tag) (c d : Reading) (e : DecodeError X) → Reads (λ w (b : List ℕ). b ≡ w) FindNoMemory c (Err e) d
+    → (c.kind ≡ Octets) × (c.state ≡ Open) → (c.mode ≡ Cer → limit_or c.owed 0 ≤ 1000) → ReadsContent tag (MeansPiece c.mode) c (Err e) d
+refuse_octets tag c d e r k most =
+    record { value = tt; done = tt; no_fault = tt; refused = refused_octets tag c d e k.0 k.1 most r.refused; mode = r.mode; marked = r.marked }
 
-pub read_piece : {X : Type 0} (tag : Tag) (c d : Reading) (r : Result (List ℕ) (DecodeError X)) → Reads (λ w b. b ≡ w) FindNoMemory c r d → (c.kind ≡ Octets) × (c.state ≡ Open) → (d.kind ≡ Octets) × (d.state ≡ Open) → (c.mode ≡ Cer → limit_or c.owed 0 ≤ 1000) → ReadsContent tag (MeansPiece c.mode) c r d
+pub read_piece : {X : Type 0} (tag : Tag) (c d : Reading) (r : Result (List ℕ) (DecodeError X)) → Reads (λ w b. b ≡ w) FindNoMemory c r d → (c.kind ≡ Octets)
+    × (c.state ≡ Open) → (d.kind ≡ Octets) × (d.state ≡ Open) → (c.mode ≡ Cer → limit_or c.owed 0 ≤ 1000) → ReadsContent tag (MeansPiece c.mode) c r d
 read_piece tag c d (Ok b) r k l most = read_whole tag c d b r k l most
 read_piece tag c d (Err e) r k l most = refuse_octets tag c d e r k most
 
 -- what is told of contents octets holds of the string in one piece, where a primitive value means no other
-module _ {X : Type 0} (Means : Mode → Tree → StringOctets → Type 0) (in_one : (mode : Mode) (t : Tag) (contents : List ℕ) (x : StringOctets) → Means mode (primitive t contents) x → Means mode (primitive t contents) (whole contents)) (tag : Tag) (c d : Reading) where
-  pub piece_read : (w : List ℕ) (s : StringOctets) → s ≡ whole w → ReadsContent tag (λ t w. Means c.mode t (whole w)) {X = X} c (Ok w) d → ReadsContent tag (Means c.mode) {X = X} c (Ok s) d
+module _ {X : Type 0} (Means : Mode → Tree → StringOctets → Type 0) (in_one : (mode : Mode) (t : Tag) (contents : List ℕ) (x : StringOctets)
+    → Means mode (primitive t contents) x → Means mode (primitive t contents) (whole contents)) (tag : Tag) (c d : Reading) where
+  pub piece_read : (w : List ℕ) (s : StringOctets) → s ≡ whole w → ReadsContent tag (λ t w. Means c.mode t (whole w)) {X = X} c (Ok w) d
+      → ReadsContent tag (Means c.mode) {X = X} c (Ok s) d
   piece_read w s e k = record {
     value = record { tree = k.value.tree; holds = k.value.holds; means = subst (Means c.mode k.value.tree) (sym e) k.value.means };
     done = k.done;
@@ -124,7 +141,8 @@ module _ {X : Type 0} (Means : Mode → Tree → StringOctets → Type 0) (in_on
     marked = k.marked;
   }
 
-  pub piece_refused : (c.kind ≡ Octets) × (c.state ≡ Open) → (e : DecodeError X) → ReadsContent {T = List ℕ} tag (λ t w. Means c.mode t (whole w)) c (Err e) d → ReadsContent {T = StringOctets} tag (Means c.mode) c (Err e) d
+  pub piece_refused : (c.kind ≡ Octets) × (c.state ≡ Open) → (e : DecodeError X) → ReadsContent {T = List ℕ} tag (λ t w. Means c.mode t (whole w)) c (Err e) d
+      → ReadsContent {T = StringOctets} tag (Means c.mode) c (Err e) d
   piece_refused o e k = record { value = tt; done = tt; no_fault = tt; refused = of_piece k.refused; mode = k.mode; marked = k.marked }
     where
       none : HoldsNone {T = List ℕ} tag (λ t w. Means c.mode t (whole w)) c → HoldsNone tag (Means c.mode) c
@@ -142,9 +160,16 @@ module _ {X : Type 0} (Means : Mode → Tree → StringOctets → Type 0) (in_on
       of_piece (valued.RefusesToRead.memory s n) = valued.RefusesToRead.memory s (needed n)
       of_piece (valued.RefusesToRead.nothing n i) = valued.RefusesToRead.nothing (none n) i
 
-  pub piece_taken : (w : List ℕ) (s : StringOctets) → s ≡ whole w → TakesNextTree tag (λ t w. Means c.mode t (whole w)) {X = X} c (Ok (Some w)) d → TakesNextTree tag (Means c.mode) {X = X} c (Ok (Some s)) d
+  pub piece_taken : (w : List ℕ) (s : StringOctets) → s ≡ whole w → TakesNextTree tag (λ t w. Means c.mode t (whole w)) {X = X} c (Ok (Some w)) d
+      → TakesNextTree tag (Means c.mode) {X = X} c (Ok (Some s)) d
   piece_taken w s e k = record {
-    value = record { tree = k.value.tree; octets = k.value.octets; has = k.value.has; means = subst (Means c.mode k.value.tree) (sym e) k.value.means; stays = k.value.stays };
+    value = record {
+      tree = k.value.tree;
+      octets = k.value.octets;
+      has = k.value.has;
+      means = subst (Means c.mode k.value.tree) (sym e) k.value.means;
+      stays = k.value.stays;
+    };
     none = tt;
     no_fault = k.no_fault;
     refused = tt;
@@ -154,10 +179,13 @@ module _ {X : Type 0} (Means : Mode → Tree → StringOctets → Type 0) (in_on
   }
 
   -- behind the header of a primitive value
-  pub piece_not_taken : (after : List ℕ) (f : HasHeader (tagged tag) c after) → f.form ≡ false → (e : DecodeError X) → TakesNextTree {T = List ℕ} tag (λ t w. Means c.mode t (whole w)) c (Err e) d → TakesNextTree {T = StringOctets} tag (Means c.mode) c (Err e) d
-  piece_not_taken after f p e k = record { value = tt; none = tt; no_fault = tt; refused = of_piece k.refused; failed = k.failed; mode = k.mode; marked = k.marked }
+  pub piece_not_taken : (after : List ℕ) (f : HasHeader (tagged tag) c after) → f.form ≡ false → (e : DecodeError X)
+      → TakesNextTree {T = List ℕ} tag (λ t w. Means c.mode t (whole w)) c (Err e) d → TakesNextTree {T = StringOctets} tag (Means c.mode) c (Err e) d
+  piece_not_taken after f p e k =
+      record { value = tt; none = tt; no_fault = tt; refused = of_piece k.refused; failed = k.failed; mode = k.mode; marked = k.marked }
     where
-      none : HasNoTree {T = List ℕ} tag (λ t w. Means c.mode t (whole w)) c → (t : Tree) (w rest : List ℕ) (x : StringOctets) → HasTagged tag c t w rest → Means c.mode t x → ⊥
+      none : HasNoTree {T = List ℕ} tag (λ t w. Means c.mode t (whole w)) c → (t : Tree) (w rest : List ℕ) (x : StringOctets) → HasTagged tag c t w rest
+          → Means c.mode t x → ⊥
       none n (primitive t contents) w rest x h means = n.value (primitive t contents) w rest contents h (in_one c.mode t contents x means)
       none n (constructed t ts) w rest x h means = primitive_in_front tag c after f p t ts w rest h
 
@@ -172,7 +200,8 @@ module _ {X : Type 0} (Means : Mode → Tree → StringOctets → Type 0) (in_on
       of_piece (valued.RefusesTree.broken n i) = valued.RefusesTree.broken (record { usable = n.usable; value = none n; absent = n.absent }) i
 
 -- a primitive octet string
-pub octets_in_one : (mode : Mode) (t : Tag) (contents : List ℕ) (x : StringOctets) → MeansString mode (primitive t contents) x → MeansString mode (primitive t contents) (whole contents)
+pub octets_in_one : (mode : Mode) (t : Tag) (contents : List ℕ) (x : StringOctets) → MeansString mode (primitive t contents) x
+    → MeansString mode (primitive t contents) (whole contents)
 octets_in_one mode t contents x means = (means.0, refl)
 
 -- ---- cut into segments
@@ -207,7 +236,8 @@ captured_held c k d h ts a = elim (state_of c k d h) [
   | inr e ↦ inr (e, empty_list c.mode ts (subst (AreEncodings c.mode ts) (h.are_none e) a))
 ]
 
-read_cut : (tag : Tag) (c d : Reading) (k : Kept) (ss : List Segment) → CapturesValues c k d → IsTable c.mode k.octets ss → ReadsTree tag (MeansString c.mode) c (cut k (segments_at k.octets ss))
+read_cut : (tag : Tag) (c d : Reading) (k : Kept) (ss : List Segment) → CapturesValues c k d → IsTable c.mode k.octets ss
+    → ReadsTree tag (MeansString c.mode) c (cut k (segments_at k.octets ss))
 read_cut tag c d k ss h t =
     let s = t.segmented in
     record {
@@ -220,7 +250,8 @@ read_cut tag c d k ss h t =
 not_cut : (tag : Tag) (c d : Reading) (k : Kept) → CapturesValues c k d → c.kind ≢ Octets → (AreCut c.mode k.octets → ⊥) → HoldsNone tag (MeansString c.mode) c
 unfolding captured_values
 not_cut tag c d k h o none (primitive t contents) x held means = o held.1.form
-not_cut tag c d k h o none (constructed t ts) x held means = none (segments_of ts, record { values = ts; encode = encoded held.1; shape = means.0; hold = refl })
+not_cut tag c d k h o none (constructed t ts) x held means =
+    none (segments_of ts, record { values = ts; encode = encoded held.1; shape = means.0; hold = refl })
   where
     encoded : HoldsValues c ts → AreEncodings c.mode ts k.octets
     encoded (inl v) =
@@ -236,7 +267,8 @@ no_others tag Means c o n (constructed t ts) x held means = of_held held.1
     of_held (inl v) = n.none v.values
     of_held (inr e) = open_not_ended c.state n.usable e.0
 
-not_captured : {X : Type 0} (tag : Tag) (c d : Reading) (e : DecodeError X) → c.kind ≢ Octets → c.mode ≢ Der → IsAsBefore c d → RefusesWhere (HasOthers c) (HasValuesOrDeep c) c e d → RefusesToRead tag (MeansString c.mode) c e d
+not_captured : {X : Type 0} (tag : Tag) (c d : Reading) (e : DecodeError X) → c.kind ≢ Octets → c.mode ≢ Der → IsAsBefore c d
+    → RefusesWhere (HasOthers c) (HasValuesOrDeep c) c e d → RefusesToRead tag (MeansString c.mode) c e d
 not_captured tag c d e o m b (capturing.RefusesWhere.failed s a) = valued.RefusesToRead.failed s a
 not_captured tag c d e o m b (capturing.RefusesWhere.source s g) = valued.RefusesToRead.source s g
 not_captured tag c d e o m b (capturing.RefusesWhere.nothing n a) = valued.RefusesToRead.nothing (no_others tag _ c o n) a.refused
@@ -244,7 +276,8 @@ not_captured tag c d e o m b (capturing.RefusesWhere.memory s h) = valued.Refuse
 
 -- what is answered of values
 module _ {X : Type 0} (tag : Tag) (c d : Reading) where
-  pub read_segments : (k : Kept) (ss : List Segment) (s : StringOctets) → CapturesBy {X = X} CapturesValues HasOthers HasValuesOrDeep c (Ok k) d → IsTable c.mode k.octets ss → s ≡ cut k (segments_at k.octets ss) → ReadsContent tag (MeansString c.mode) {X = X} c (Ok s) d
+  pub read_segments : (k : Kept) (ss : List Segment) (s : StringOctets) → CapturesBy {X = X} CapturesValues HasOthers HasValuesOrDeep c (Ok k) d
+      → IsTable c.mode k.octets ss → s ≡ cut k (segments_at k.octets ss) → ReadsContent tag (MeansString c.mode) {X = X} c (Ok s) d
   read_segments k ss s r t is = record {
     value = subst (ReadsTree tag (MeansString c.mode) c) (sym is) (read_cut tag c d k ss r.captured t);
     done = (let h : CapturesValues c k d = r.captured in h.done);
@@ -254,18 +287,38 @@ module _ {X : Type 0} (tag : Tag) (c d : Reading) where
     marked = r.marked;
   }
 
-  pub refuse_segments : (k : Kept) (e : DecodeError X) → CapturesBy {X = X} CapturesValues HasOthers HasValuesOrDeep c (Ok k) d → c.kind ≢ Octets → (AreCut c.mode k.octets → ⊥) → IsRefusal e → ReadsContent tag (MeansString c.mode) c (Err e) d
-  refuse_segments k e r o none a = record { value = tt; done = tt; no_fault = tt; refused = valued.RefusesToRead.nothing (not_cut tag c d k r.captured o none) a; mode = r.mode; marked = r.marked }
+  pub refuse_segments : (k : Kept) (e : DecodeError X) → CapturesBy {X = X} CapturesValues HasOthers HasValuesOrDeep c (Ok k) d → c.kind ≢ Octets
+      → (AreCut c.mode k.octets → ⊥) → IsRefusal e → ReadsContent tag (MeansString c.mode) c (Err e) d
+  refuse_segments k e r o none a = record {
+    value = tt;
+    done = tt;
+    no_fault = tt;
+    refused = valued.RefusesToRead.nothing (not_cut tag c d k r.captured o none) a;
+    mode = r.mode;
+    marked = r.marked;
+  }
 
-  pub refuse_values : (e : DecodeError X) → CapturesBy {X = X} CapturesValues HasOthers HasValuesOrDeep c (Err e) d → c.kind ≢ Octets → c.mode ≢ Der → ReadsContent tag (MeansString c.mode) c (Err e) d
-  refuse_values e r o m = record { value = tt; done = tt; no_fault = tt; refused = not_captured tag c d e o m r.as_before r.refused; mode = r.mode; marked = r.marked }
+  pub refuse_values : (e : DecodeError X) → CapturesBy {X = X} CapturesValues HasOthers HasValuesOrDeep c (Err e) d → c.kind ≢ Octets → c.mode ≢ Der
+      → ReadsContent tag (MeansString c.mode) c (Err e) d
+  refuse_values e r o m =
+      record { value = tt; done = tt; no_fault = tt; refused = not_captured tag c d e o m r.as_before r.refused; mode = r.mode; marked = r.marked }
 
   -- segments for whose table there was no memory
-  pub refuse_table : (k : Kept) (e : DecodeError X) → CapturesBy {X = X} CapturesValues HasOthers HasValuesOrDeep c (Ok k) d → AreCut c.mode k.octets → cause_of e ≡ of_memory → ReadsContent tag (MeansString c.mode) c (Err e) d
-  refuse_table k e r a m = record { value = tt; done = tt; no_fault = tt; refused = valued.RefusesToRead.memory m (valued.NeedsMemory.of_segments a.1.values (captured_held c k d r.captured a.1.values a.1.encode) a.1.shape); mode = r.mode; marked = r.marked }
+  pub refuse_table : (k : Kept) (e : DecodeError X) → CapturesBy {X = X} CapturesValues HasOthers HasValuesOrDeep c (Ok k) d → AreCut c.mode k.octets
+      → cause_of e ≡ of_memory → ReadsContent tag (MeansString c.mode) c (Err e) d
+  refuse_table k e r a m = record {
+    value = tt;
+    done = tt;
+    no_fault = tt;
+    refused = valued.RefusesToRead.memory m
+        (valued.NeedsMemory.of_segments a.1.values (captured_held c k d r.captured a.1.values a.1.encode) a.1.shape);
+    mode = r.mode;
+    marked = r.marked;
+  }
 
 -- in DER there is no such string
-pub refuse_constructed : {X : Type 0} (tag : Tag) (c : Reading) (e : DecodeError X) → c.mode ≡ Der → c.kind ≢ Octets → IsRefusal e → ReadsContent tag (MeansString c.mode) c (Err e) c
+pub refuse_constructed : {X : Type 0} (tag : Tag) (c : Reading) (e : DecodeError X) → c.mode ≡ Der → c.kind ≢ Octets → IsRefusal e
+    → ReadsContent tag (MeansString c.mode) c (Err e) c
 refuse_constructed tag c e m o a = record { value = tt; done = tt; no_fault = tt; refused = valued.RefusesToRead.nothing none a; mode = refl; marked = refl }
   where
     none : HoldsNone tag (MeansString c.mode) c

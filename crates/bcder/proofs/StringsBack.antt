@@ -1,5 +1,6 @@
 -- A string that was written is taken back.
-use Rattle.std.proofs.Common.{◌≡◌, ◌≢◌, ◌≤◌, ◌<◌, ◌^◌, ℕ, zero, suc, Bool, true, false, List, [], ◌++◌, length, Option, Some, None, refl, ap, sym, ◌∙◌, arith, length-append, append_assoc, append-nil, subst, inl, inr}
+use Rattle.std.proofs.Common.{◌≡◌, ◌≢◌, ◌≤◌, ◌<◌, ◌^◌, ℕ, zero, suc, Bool, true, false, List, [], ◌++◌, length, Option, Some, None}
+use Rattle.std.proofs.Common.{refl, ap, sym, ◌∙◌, arith, length-append, append_assoc, append-nil, subst, inl, inr}
 use Rattle.std.specs.List.{concat}
 use Rattle.std.proofs.lemmas.Bool.{lt-ltb, le-ltb}
 use Rattle.std.specs.Prelude.{Result, Ok, Err}
@@ -41,9 +42,11 @@ use Rattle.bcder.proofs.WrittenStrings.{segments_hold, segments_shape, meant_who
 -- ---- what stands in front
 
 -- the header of a value in front is that of no other tag
-header_there : (tag : Tag) (c : Reading) (form : Bool) (len : Length) (header x rest : List ℕ) → IsHeader c.mode tag form len header → c.stream.rest ≡ header ++ x → 2 ≤ length c.stream.rest → IsElsewhere tag c rest → ⊥
+header_there : (tag : Tag) (c : Reading) (form : Bool) (len : Length) (header x rest : List ℕ) → IsHeader c.mode tag form len header
+    → c.stream.rest ≡ header ++ x → 2 ≤ length c.stream.rest → IsElsewhere tag c rest → ⊥
 header_there tag c form len header x rest is_header is some (none_left e l) = omega (arith, some, ap length e)
-header_there tag c form len header x rest is_header is some (other o l) = no_other_front c.mode tag c.stream.rest _ x (front_of_header c.mode tag form len header c.stream.rest x is_header is) refl o
+header_there tag c form len header x rest is_header is some (other o l) =
+    no_other_front c.mode tag c.stream.rest _ x (front_of_header c.mode tag form len header c.stream.rest x is_header is) refl o
 header_there tag c form len header x rest is_header is some (marker e k m) = is_header.is_value_tag.no_end e
 
 some_there : (c : Reading) (t : Tree) (w after : List ℕ) → HasValue c t w after → 2 ≤ length c.stream.rest
@@ -52,13 +55,16 @@ some_there c t w after has = omega (arith, two_octets c.mode t w has.encodes, ap
 value_there : (c : Reading) (t : Tree) (w after rest : List ℕ) → HasValue c t w after → IsElsewhere (tag_of t) c rest → ⊥
 value_there c (primitive t contents) w after rest has =
     let d = has.encodes.1 in
-    header_there t c false (Definite (length contents)) d.header (contents ++ after) rest d.is_header (has.rest ∙ ap (λ z. z ++ after) d.is ∙ append_assoc d.header contents after) (some_there c (primitive t contents) w after has)
+    header_there t c false (Definite (length contents)) d.header (contents ++ after) rest d.is_header
+    (has.rest ∙ ap (λ z. z ++ after) d.is ∙ append_assoc d.header contents after) (some_there c (primitive t contents) w after has)
 value_there c (constructed t ts) w after rest has =
     let some = some_there c (constructed t ts) w after has in
     let contents = has.encodes.0 in
     elim has.encodes.2 [
-      | inl d ↦ header_there t c true (Definite (length contents)) d.header (contents ++ after) rest d.is_header (has.rest ∙ ap (λ z. z ++ after) d.is ∙ append_assoc d.header contents after) some
-      | inr d ↦ header_there t c true Indefinite d.header ((contents ++ d.end) ++ after) rest d.is_header (has.rest ∙ ap (λ z. z ++ after) d.is ∙ append_assoc d.header (contents ++ d.end) after) some
+      | inl d ↦ header_there t c true (Definite (length contents)) d.header (contents ++ after) rest d.is_header
+          (has.rest ∙ ap (λ z. z ++ after) d.is ∙ append_assoc d.header contents after) some
+      | inr d ↦ header_there t c true Indefinite d.header ((contents ++ d.end) ++ after) rest d.is_header
+          (has.rest ∙ ap (λ z. z ++ after) d.is ∙ append_assoc d.header (contents ++ d.end) after) some
     ]
 
 -- ---- what an octet string means
@@ -71,7 +77,8 @@ meant_by mode (constructed t ts) w h shape =
 
 -- ---- what is taken
 
-module _ (X : Type 0) (t : Tag) (mode : Mode) (w : List ℕ) (e : Encoded) (written : IsWrittenString t mode w e) (c : Reading) (after : List ℕ) (s : StandsIn mode e.octets after c) where
+module _ (X : Type 0) (t : Tag) (mode : Mode) (w : List ℕ) (e : Encoded) (written : IsWrittenString t mode w e) (c : Reading) (after : List ℕ)
+    (s : StandsIn mode e.octets after c) where
   there : HasTagged t c written.value e.octets after
   there = (record { usable = s.usable; encodes = subst (λ m. IsEncoding m written.value e.octets) (sym s.in_mode) written.encodes; rest = s.rest }, written.tag)
 
@@ -98,12 +105,25 @@ module _ (X : Type 0) (t : Tag) (mode : Mode) (w : List ℕ) (e : Encoded) (writ
       absent (inr h) = value_there c written.value e.octets after d.stream.rest there.0 (subst (λ u. IsElsewhere u c d.stream.rest) (sym written.tag) h.1)
 
   one_taken : (r : Result StringOctets (DecodeError X)) (d : Reading) → TakesOneTree t (MeansString c.mode) c r d → AnswersSuch (HasOctets w) after c r d
-  one_taken (Ok y) d x = let is = taken_is y d x.value in record { value = is.0; rest = is.1; stays = is.2; no_fault = x.no_fault; fails = tt; mode = x.mode; marked = x.marked }
-  one_taken (Err f) d x = record { value = tt; rest = tt; stays = tt; no_fault = tt; fails = elim x.refused [ inl n ↦ absurd (not_none d n.0) | inr n ↦ refusal_fails f d n.1 ]; mode = x.mode; marked = x.marked }
+  one_taken (Ok y) d x =
+      let is = taken_is y d x.value in
+      record { value = is.0; rest = is.1; stays = is.2; no_fault = x.no_fault; fails = tt; mode = x.mode; marked = x.marked }
+  one_taken (Err f) d x = record {
+    value = tt;
+    rest = tt;
+    stays = tt;
+    no_fault = tt;
+    fails = elim x.refused [ inl n ↦ absurd (not_none d n.0) | inr n ↦ refusal_fails f d n.1 ];
+    mode = x.mode;
+    marked = x.marked;
+  }
 
-  next_taken : (r : Result (Option StringOctets) (DecodeError X)) (d : Reading) → TakesNextTree t (MeansString c.mode) c r d → AnswersSuch (HasSomeOctets w) after c r d
+  next_taken : (r : Result (Option StringOctets) (DecodeError X)) (d : Reading) → TakesNextTree t (MeansString c.mode) c r d
+      → AnswersSuch (HasSomeOctets w) after c r d
   next_taken (Ok None) d x = absurd (not_none d x.none)
-  next_taken (Ok (Some y)) d x = let is = taken_is y d x.value in record { value = is.0; rest = is.1; stays = is.2; no_fault = x.no_fault; fails = tt; mode = x.mode; marked = x.marked }
+  next_taken (Ok (Some y)) d x =
+      let is = taken_is y d x.value in
+      record { value = is.0; rest = is.1; stays = is.2; no_fault = x.no_fault; fails = tt; mode = x.mode; marked = x.marked }
   next_taken (Err f) d x = record { value = tt; rest = tt; stays = tt; no_fault = tt; fails = refusal_fails f d x.refused; mode = x.mode; marked = x.marked }
 
 pub string_taken : {X : Type 0} (t : Tag) (mode : Mode) (w : List ℕ) (e : Encoded) → IsWrittenString t mode w e → IsTakenString X t mode w e

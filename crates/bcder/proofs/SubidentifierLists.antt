@@ -1,7 +1,8 @@
 -- The subidentifiers that octets are made of.
 use Rattle.std.proofs.Common.{◌≡◌, ℕ, suc, zero, ◌+◌, ◌-◌, ◌*◌, ◌<◌, List, [], ◌∷◌, ◌++◌, map, refl, ap, ◌∙◌, arith, append_assoc, append-nil}
 use Rattle.std.proofs.lemmas.Bool.{lt-ltb, le-ltb}
-use Rattle.bcder.specs.x690.ObjectIdentifier.{subidentifier_number, cut_after, subidentifiers, IsWhole, AreSubidentifiers, IsComplete, components_of, components}
+use Rattle.bcder.specs.x690.ObjectIdentifier.{subidentifier_number, cut_after, subidentifiers, IsWhole}
+use Rattle.bcder.specs.x690.ObjectIdentifier.{AreSubidentifiers, IsComplete, components_of, components}
 use Rattle.bcder.specs.calls.IdentifierText.{MayBegin}
 
 -- whole octets are cut off as they stand
@@ -15,7 +16,8 @@ cut_whole front (b ∷ c ∷ v) x (lo, hi, p) =
 pub numbers_held : (ns : List ℕ) (w : List ℕ) → AreSubidentifiers ns w → map subidentifier_number (subidentifiers w) ≡ ns
 numbers_held [] w e = rw e refl
 numbers_held (n ∷ ns) w (v, x, s, h, e) =
-    ap (λ l. map subidentifier_number (subidentifiers l)) e ∙ ap (map subidentifier_number) (cut_whole [] v x s.whole) ∙ ap (λ l. l ∷ map subidentifier_number (subidentifiers x)) s.value ∙ ap (λ l. n ∷ l) (numbers_held ns x h)
+    ap (λ l. map subidentifier_number (subidentifiers l)) e ∙ ap (map subidentifier_number) (cut_whole [] v x s.whole)
+    ∙ ap (λ l. l ∷ map subidentifier_number (subidentifiers x)) s.value ∙ ap (λ l. n ∷ l) (numbers_held ns x h)
 
 complete_whole : (v : List ℕ) → IsWhole v → IsComplete v
 complete_whole [] p = p

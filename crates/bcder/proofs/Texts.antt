@@ -16,7 +16,8 @@ no_dot_rest c s h i l = h (suc i) (omega arith)
 -- up to the first dot, and from there on
 pub split_dot : (front x y : List ℕ) → HasNoDot x → split_after front (x ++ (46 ∷ y)) ≡ (front ++ x) ∷ between_dots y
 split_dot front [] y h = ap (λ l. l ∷ between_dots y) (sym (append-nil front))
-split_dot front (c ∷ x) y h = rw (no_dot_first c x h) (split_dot (front ++ c ∷ []) x y (no_dot_rest c x h) ∙ ap (λ l. l ∷ between_dots y) (append_assoc front (c ∷ []) x))
+split_dot front (c ∷ x) y h =
+    rw (no_dot_first c x h) (split_dot (front ++ c ∷ []) x y (no_dot_rest c x h) ∙ ap (λ l. l ∷ between_dots y) (append_assoc front (c ∷ []) x))
 
 -- without a dot
 pub split_none : (front x : List ℕ) → HasNoDot x → split_after front x ≡ (front ++ x) ∷ []

@@ -30,7 +30,8 @@ module _ (mode : Mode) (w : List ℕ) where
   pub alone : (p : Peeked) → Shows mode any p w → IsPeeked mode any p (length w) w
   alone p s = subst (λ z. IsPeeked mode any p (length w) z) (append-nil w) (s [])
 
-  pub front_told : (p : Peeked) → AreOctets w → 1 ≤ length w → IsPeeked mode any p (length w) w → ((v : Violation) → p ≡ peeked.Refused v → ⊥) → BeginsHeader mode w ⊎ BeginsEnd mode w
+  pub front_told : (p : Peeked) → AreOctets w → 1 ≤ length w → IsPeeked mode any p (length w) w → ((v : Violation) → p ≡ peeked.Refused v → ⊥)
+      → BeginsHeader mode w ⊎ BeginsEnd mode w
   front_told peeked.Nothing o l i n = absurd (omega (arith, ap length i))
   front_told peeked.Other o l i n = absurd (i.4 refl)
   front_told (peeked.End k) o l i n = inr (begins_end _ o i.0.1)

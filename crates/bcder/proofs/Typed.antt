@@ -1,5 +1,6 @@
 -- Values that are taken by readers of contents octets.
-use Rattle.std.proofs.Common.{◌≡◌, ℕ, Bool, true, false, List, ◌++◌, length, take, drop, Option, Some, None, refl, ap, sym, ◌∙◌, arith, length-append, append_assoc, take-append-drop, subst, inl, inr}
+use Rattle.std.proofs.Common.{◌≡◌, ℕ, Bool, true, false, List, ◌++◌, length, take, drop, Option, Some, None, refl, ap, sym, ◌∙◌}
+use Rattle.std.proofs.Common.{arith, length-append, append_assoc, take-append-drop, subst, inl, inr}
 use Rattle.std.specs.Prelude.{◌||◌, Result, Ok, Err}
 use Rattle.std.specs.Borrow.{MutBor}
 use Rattle.std.proofs.lemmas.List.{take_at}
@@ -16,9 +17,11 @@ use Rattle.bcder.specs.declared.decode.content.Primitive.{Primitive}
 use Rattle.bcder.specs.declared.decode.content.Constructed.{Constructed}
 use Rattle.bcder.specs.calls.Views.{of_constructed, of_primitive}
 use Rattle.bcder.specs.calls.Cause.{cause_of}
-use Rattle.bcder.specs.calls.Content.{Reading, ContentForm, Octets, DefiniteValues, IndefiniteValues, any, tagged, label, HasHeader, IsAbsent, IsElsewhere, none_left, other, marker, of_octets}
+use Rattle.bcder.specs.calls.Content.{Reading, ContentForm, Octets, DefiniteValues, IndefiniteValues, any, tagged, label}
+use Rattle.bcder.specs.calls.Content.{HasHeader, IsAbsent, IsElsewhere, none_left, other, marker, of_octets}
 use Rattle.bcder.specs.calls.Content as content
-use Rattle.bcder.specs.calls.Calls.{Hands, IsFormOf, ContentOf, Answered, TakesValue, RefusesFront, RefusesContent, by_closure, unfinished, RefusesEnd, left_failed, source_failed, left_open, HasForm, Untagged}
+use Rattle.bcder.specs.calls.Calls.{Hands, IsFormOf, ContentOf, Answered, TakesValue, RefusesFront, RefusesContent, by_closure}
+use Rattle.bcder.specs.calls.Calls.{unfinished, RefusesEnd, left_failed, source_failed, left_open, HasForm, Untagged}
 use Rattle.bcder.specs.calls.Takes.{HasNone, TakesNext, Takes, RefusesTake, by_header, by_form, by_content}
 use Rattle.bcder.specs.calls.Walking.{IsShort}
 use Rattle.bcder.specs.calls.Readers.{HasAll, Reads, RefusesReading}
@@ -37,15 +40,42 @@ use Rattle.bcder.proofs.Naming.{names_front, behind_header}
 
 -- a header of the tag, as one of any
 abbrev any_of : (tag : Tag) (c : Reading) (after : List ℕ) → HasHeader (tagged tag) c after → HasHeader any c after
-any_of tag c after f = record { tag = f.tag; form = f.form; len = f.len; octets = f.octets; is_header = f.is_header; is_asked = refl; rest = f.rest; owed = f.owed; falls = f.falls; fits = f.fits }
+any_of tag c after f = record {
+  tag = f.tag;
+  form = f.form;
+  len = f.len;
+  octets = f.octets;
+  is_header = f.is_header;
+  is_asked = refl;
+  rest = f.rest;
+  owed = f.owed;
+  falls = f.falls;
+  fits = f.fits;
+}
 
 -- where a value of the tag stands in front, its header does
-primitive_header : (tag : Tag) (c : Reading) → Within c → (contents w rest : List ℕ) → HasPrimitive tag c contents w rest → (x : List ℕ) × HasHeader (tagged tag) c x
+primitive_header : (tag : Tag) (c : Reading) → Within c → (contents w rest : List ℕ) → HasPrimitive tag c contents w rest
+    → (x : List ℕ) × HasHeader (tagged tag) c x
 primitive_header tag c within contents w rest h =
     let d = h.encodes.1 in
     let e : c.stream.rest ≡ d.header ++ (contents ++ rest) = h.rest ∙ ap (λ z. z ++ rest) d.is ∙ append_assoc d.header contents rest in
-    let q = owed_after c.owed (Definite (length contents)) (length d.header) (length c.stream.rest) (length (contents ++ rest)) within.fits (ap length e ∙ length-append d.header (contents ++ rest)) (λ n z. let y : length contents ≡ n = (let u : ◌≡◌ {A = Length} (Definite (length contents)) (Definite n) = z in cc) in omega (arith, y, length-append contents rest)) in
-    (contents ++ rest, record { tag = tag; form = false; len = Definite (length contents); octets = d.header; is_header = d.is_header; is_asked = refl; rest = e; owed = q.0; falls = q.1; fits = q.2 })
+    let q = owed_after c.owed (Definite (length contents)) (length d.header) (length c.stream.rest) (length (contents ++ rest)) within.fits
+    (ap length e ∙ length-append d.header (contents ++ rest)) (λ n z. let y : length contents ≡ n =
+    (let u : ◌≡◌ {A = Length} (Definite (length contents)) (Definite n) = z in cc) in omega (arith, y, length-append contents rest)) in (
+      contents ++ rest,
+      record {
+        tag = tag;
+        form = false;
+        len = Definite (length contents);
+        octets = d.header;
+        is_header = d.is_header;
+        is_asked = refl;
+        rest = e;
+        owed = q.0;
+        falls = q.1;
+        fits = q.2;
+      },
+    )
 
 -- a header of the tag is no reason to answer that there is none
 pub header_not_absent : (tag : Tag) (c : Reading) (x rest : List ℕ) → c.state ≡ Open → HasHeader (tagged tag) c x → IsAbsent (tagged tag) c rest → ⊥
@@ -54,7 +84,8 @@ header_not_absent tag c x rest o f (inr e) = elsewhere e.1
   where
     elsewhere : IsElsewhere tag c rest → ⊥
     elsewhere (none_left y z) = no_header_empty (tagged tag) c x y f
-    elsewhere (other y z) = no_other_front c.mode tag c.stream.rest (record { tag = f.tag; form = f.form; len = f.len }) x (front_of_header c.mode f.tag f.form f.len f.octets c.stream.rest x f.is_header f.rest) f.is_asked y
+    elsewhere (other y z) = no_other_front c.mode tag c.stream.rest (record { tag = f.tag; form = f.form; len = f.len }) x
+        (front_of_header c.mode f.tag f.form f.len f.octets c.stream.rest x f.is_header f.rest) f.is_asked y
     elsewhere (marker y z m) = header_no_marker (tagged tag) c x rest f m
 
 -- a header of another form isn't that of such a value
@@ -62,7 +93,8 @@ no_other_form : (tag : Tag) (c : Reading) (f : HasForm true (tagged tag) c) (con
 no_other_form tag c f contents w rest h =
     let d = h.encodes.1 in
     let e : c.stream.rest ≡ d.header ++ (contents ++ rest) = h.rest ∙ ap (λ z. z ++ rest) d.is ∙ append_assoc d.header contents rest in
-    let same = one_header c.mode tag f.front.tag false f.front.form (Definite (length contents)) f.front.len d.header f.front.octets (contents ++ rest) f.after d.is_header f.front.is_header (sym e ∙ f.front.rest) in
+    let same = one_header c.mode tag f.front.tag false f.front.form (Definite (length contents)) f.front.len d.header f.front.octets
+    (contents ++ rest) f.after d.is_header f.front.is_header (sym e ∙ f.front.rest) in
     let x : false ≡ true = ap (λ z. z.form) same.0 ∙ f.is in
     cc
 
@@ -79,7 +111,8 @@ some_is : (m n : ℕ) → ◌≡◌ {A = Option ℕ} (Some m) (Some n) → m ≡
 some_is m n e = cc
 
 -- contents octets that were handed behind a header of the tag, all of which came
-module _ (tag : Tag) (c i : Reading) (w : Within c) (after : List ℕ) (f : HasHeader (tagged tag) c after) (g : Hands c.mode f.form f.len f.owed after i) (k : i.kind ≡ Octets) where
+module _ (tag : Tag) (c i : Reading) (w : Within c) (after : List ℕ) (f : HasHeader (tagged tag) c after) (g : Hands c.mode f.form f.len f.owed after i)
+    (k : i.kind ≡ Octets) where
   pub handed_form : (n : ℕ) × (f.form ≡ false) × (f.len ≡ Definite n)
   handed_form = form_is f.form f.len i.kind g.form k
 
@@ -91,7 +124,8 @@ module _ (tag : Tag) (c i : Reading) (w : Within c) (after : List ℕ) (f : HasH
 
   handed_encoded : HasAll (length i.stream.rest) i → IsEncoding c.mode (primitive tag i.stream.rest) (f.octets ++ i.stream.rest)
   handed_encoded a =
-      let o : AreOctets i.stream.rest = subst AreOctets (sym handed_octets.1) (AreOctets-take handed_form.0 after (AreOctets-after f.octets c.stream.rest after f.rest w.octets)) in
+      let o : AreOctets i.stream.rest =
+      subst AreOctets (sym handed_octets.1) (AreOctets-take handed_form.0 after (AreOctets-after f.octets c.stream.rest after f.rest w.octets)) in
       let h : IsHeader c.mode tag false (Definite (length i.stream.rest)) f.octets =
       subst (λ z. IsHeader c.mode z false (Definite (length i.stream.rest)) f.octets) f.is_asked
       (subst (λ z. IsHeader c.mode f.tag z (Definite (length i.stream.rest)) f.octets) handed_form.1
@@ -99,8 +133,10 @@ module _ (tag : Tag) (c i : Reading) (w : Within c) (after : List ℕ) (f : HasH
       (o, record { header = f.octets; is_header = h; is = refl })
 
   -- the value stands in front
-  pub handed_value : c.state ≡ Open → HasAll (length i.stream.rest) i → (rest : List ℕ) → after ≡ i.stream.rest ++ rest → HasPrimitive tag c i.stream.rest (f.octets ++ i.stream.rest) rest
-  handed_value o a rest e = record { usable = o; encodes = handed_encoded a; rest = f.rest ∙ ap (λ z. f.octets ++ z) e ∙ sym (append_assoc f.octets i.stream.rest rest) }
+  pub handed_value : c.state ≡ Open → HasAll (length i.stream.rest) i → (rest : List ℕ) → after ≡ i.stream.rest ++ rest
+      → HasPrimitive tag c i.stream.rest (f.octets ++ i.stream.rest) rest
+  handed_value o a rest e =
+      record { usable = o; encodes = handed_encoded a; rest = f.rest ∙ ap (λ z. f.octets ++ z) e ∙ sym (append_assoc f.octets i.stream.rest rest) }
 
   -- before what is behind the octets that were handed
   pub handed_before : HasAll (length i.stream.rest) i → after ≡ i.stream.rest ++ drop handed_form.0 after
@@ -108,7 +144,8 @@ module _ (tag : Tag) (c i : Reading) (w : Within c) (after : List ℕ) (f : HasH
 
   -- or before the rest of a whole value
   handed_passed : (tree : Tree) (passed rest : List ℕ) → after ≡ passed ++ rest → IsEncoding c.mode tree (f.octets ++ passed) → after ≡ i.stream.rest ++ rest
-  handed_passed tree passed rest e h = of_shape (shape_in c i after (any_of tag c after f) g tree (f.octets ++ passed) rest h (f.rest ∙ ap (λ z. f.octets ++ z) e ∙ sym (append_assoc f.octets passed rest)))
+  handed_passed tree passed rest e h = of_shape (shape_in c i after (any_of tag c after f) g tree (f.octets ++ passed) rest h
+      (f.rest ∙ ap (λ z. f.octets ++ z) e ∙ sym (append_assoc f.octets passed rest)))
     where
       of_shape : Shape c.mode f.form f.len rest after → after ≡ i.stream.rest ++ rest
       of_shape (is_primitive b a l y) =
@@ -117,19 +154,24 @@ module _ (tag : Tag) (c i : Reading) (w : Within c) (after : List ℕ) (f : HasH
       of_shape (is_definite ts b a l q y) = absurd (let u : true ≡ false = sym a ∙ handed_form.1 in cc)
       of_shape (is_indefinite ts b e a l q z y) = absurd (let u : true ≡ false = sym a ∙ handed_form.1 in cc)
 
-module _ {C T X : Type 0} (view : C → Reading) (post : Tag → MutBor C → Result T (DecodeError X) → MutBor C → Type 0) (tag : Tag) (MeansIn : Mode → List ℕ → T → Type 0) (RefusesIn : Mode → List ℕ → DecodeError X → Type 0)
+module _ {C T X : Type 0} (view : C → Reading) (post : Tag → MutBor C → Result T (DecodeError X) → MutBor C → Type 0) (tag : Tag)
+    (MeansIn : Mode → List ℕ → T → Type 0) (RefusesIn : Mode → List ℕ → DecodeError X → Type 0)
     (octets : (x : C) → ((view x).kind ≡ Octets) × ((view x).state ≡ Open))
-    (reads : (t : Tag) (p : MutBor C) (r : Result T (DecodeError X)) (q : MutBor C) → post t p r q → Reads (MeansIn (view p.now).mode) (RefusesIn (view p.now).mode) (view p.now) r (view q.now)) where
-  answered_reads : (m : Mode) (t : Tag) (i j : Reading) (r : Result T (DecodeError X)) → Answered {R = Result T (DecodeError X)} view (post t) i r j → i.mode ≡ m → Reads (MeansIn m) (RefusesIn m) i r j
+    (reads : (t : Tag) (p : MutBor C) (r : Result T (DecodeError X)) (q : MutBor C) → post t p r q
+    → Reads (MeansIn (view p.now).mode) (RefusesIn (view p.now).mode) (view p.now) r (view q.now)) where
+  answered_reads : (m : Mode) (t : Tag) (i j : Reading) (r : Result T (DecodeError X)) → Answered {R = Result T (DecodeError X)} view (post t) i r j
+      → i.mode ≡ m → Reads (MeansIn m) (RefusesIn m) i r j
   answered_reads m t i j r a e =
       subst (λ z. Reads (MeansIn z) (RefusesIn z) i r j) e
       (subst (λ z. Reads (MeansIn z.mode) (RefusesIn z.mode) z r j) a.handed_is
-      (subst (λ z. Reads (MeansIn (view a.handed.now).mode) (RefusesIn (view a.handed.now).mode) (view a.handed.now) r z) a.left_is (reads t a.handed r a.left a.called)))
+      (subst (λ z. Reads (MeansIn (view a.handed.now).mode) (RefusesIn (view a.handed.now).mode) (view a.handed.now) r z) a.left_is
+      (reads t a.handed r a.left a.called)))
 
   handed_is_octets : (t : Tag) (i j : Reading) (r : Result T (DecodeError X)) → Answered {R = Result T (DecodeError X)} view (post t) i r j → i.kind ≡ Octets
   handed_is_octets t i j r a = subst (λ z. z.kind ≡ Octets) a.handed_is (octets a.handed.now).0
 
-  left_is_octets : (t : Tag) (i j : Reading) (r : Result T (DecodeError X)) → Answered {R = Result T (DecodeError X)} view (post t) i r j → (j.kind ≡ Octets) × (j.state ≡ Open)
+  left_is_octets : (t : Tag) (i j : Reading) (r : Result T (DecodeError X)) → Answered {R = Result T (DecodeError X)} view (post t) i r j
+      → (j.kind ≡ Octets) × (j.state ≡ Open)
   left_is_octets t i j r a = subst (λ z. (z.kind ≡ Octets) × (z.state ≡ Open)) a.left_is (octets a.left.now)
 
   -- ---- taken
@@ -144,11 +186,13 @@ module _ {C T X : Type 0} (view : C → Reading) (post : Tag → MutBor C → Re
     taken_as : TakesAs tag (MeansIn c.mode) (RefusesIn c.mode) c x d
     taken_as =
         let k = handed_is_octets v.front.tag v.handed v.answers.left (Ok x) v.answers.answered in
-        let e : IsEncoding c.mode v.tree (v.front.octets ++ v.passed) = subst (λ b. IsEncoding (label c.mode b) v.tree (v.front.octets ++ v.passed)) unmarked v.encodes in
+        let e : IsEncoding c.mode v.tree (v.front.octets ++ v.passed) =
+        subst (λ b. IsEncoding (label c.mode b) v.tree (v.front.octets ++ v.passed)) unmarked v.encodes in
         record {
           contents = v.handed.stream.rest;
           octets = v.front.octets ++ v.handed.stream.rest;
-          has = handed_value tag c v.handed w (v.passed ++ d.stream.rest) v.front v.hands k v.usable read_all.all d.stream.rest (handed_passed tag c v.handed w (v.passed ++ d.stream.rest) v.front v.hands k v.tree v.passed d.stream.rest refl e);
+          has = handed_value tag c v.handed w (v.passed ++ d.stream.rest) v.front v.hands k v.usable read_all.all d.stream.rest
+              (handed_passed tag c v.handed w (v.passed ++ d.stream.rest) v.front v.hands k v.tree v.passed d.stream.rest refl e);
           means = read_all.value;
           stays = v.stays;
         }
@@ -166,20 +210,27 @@ module _ {C T X : Type 0} (view : C → Reading) (post : Tag → MutBor C → Re
     is_broken n = record { usable = f.usable; value = n; absent = λ rest. header_not_absent tag c f.after rest f.usable f.front }
 
     few_octets : f.handed.kind ≡ Octets → IsShort f.handed → (contents u rest : List ℕ) → HasPrimitive tag c contents u rest → ⊥
-    few_octets k s contents u rest h = (short_front c f.handed f.after (any_of tag c f.after f.front) f.hands k s).none (primitive tag contents) u rest h.encodes h.rest
+    few_octets k s contents u rest h =
+        (short_front c f.handed f.after (any_of tag c f.after f.front) f.hands k s).none (primitive tag contents) u rest h.encodes h.rest
 
-    refused_octets : f.handed.kind ≡ Octets → RefusesReading (MeansIn c.mode) (RefusesIn c.mode) f.handed e f.left → RefusesAs tag (MeansIn c.mode) (RefusesIn c.mode) c e d
-    refused_octets k (readers.RefusesReading.missing (readers.RefusesTooFew.source s g)) = typed.RefusesAs.source s (grew_between _ _ _ _ (no_fewer _ _ f.faults_handed) g f.faults_left)
-    refused_octets k (readers.RefusesReading.missing (readers.RefusesTooFew.few s o n)) = typed.RefusesAs.broken (is_broken (few_octets k s)) (behind_header (tagged tag) c (cause_of e) o f.after f.front)
-    refused_octets k (readers.RefusesReading.refused a r n) = typed.RefusesAs.refused f.handed.stream.rest _ _ (handed_value tag c f.handed w f.after f.front f.hands k f.usable a _ (handed_before tag c f.handed w f.after f.front f.hands k a)) r
+    refused_octets : f.handed.kind ≡ Octets → RefusesReading (MeansIn c.mode) (RefusesIn c.mode) f.handed e f.left
+        → RefusesAs tag (MeansIn c.mode) (RefusesIn c.mode) c e d
+    refused_octets k (readers.RefusesReading.missing (readers.RefusesTooFew.source s g)) =
+        typed.RefusesAs.source s (grew_between _ _ _ _ (no_fewer _ _ f.faults_handed) g f.faults_left)
+    refused_octets k (readers.RefusesReading.missing (readers.RefusesTooFew.few s o n)) =
+        typed.RefusesAs.broken (is_broken (few_octets k s)) (behind_header (tagged tag) c (cause_of e) o f.after f.front)
+    refused_octets k (readers.RefusesReading.refused a r n) = typed.RefusesAs.refused f.handed.stream.rest _ _
+        (handed_value tag c f.handed w f.after f.front f.hands k f.usable a _ (handed_before tag c f.handed w f.after f.front f.hands k a)) r
 
-    refused_end : (l : Reading) → l.kind ≡ Octets → l.state ≡ Open → l.owed ≡ Some 0 → l.stream.faults ≡ f.handed.stream.faults → RefusesEnd cause_of l e f.left → RefusesAs tag (MeansIn c.mode) (RefusesIn c.mode) c e d
+    refused_end : (l : Reading) → l.kind ≡ Octets → l.state ≡ Open → l.owed ≡ Some 0 → l.stream.faults ≡ f.handed.stream.faults → RefusesEnd cause_of l e f.left
+        → RefusesAs tag (MeansIn c.mode) (RefusesIn c.mode) c e d
     refused_end l k o z n (left_failed x a) = absurd (open_not_failed l.state o x)
     refused_end l k o z n (source_failed s g) = typed.RefusesAs.source s (grew_between _ _ _ _ (no_fewer _ _ (n ∙ f.faults_handed)) g f.faults_left)
     refused_end l k o z n (left_open x a) = absurd (x.none l.stream.rest (inr (o, of_octets k z)))
 
     refused_content : RefusesContent cause_of view post f.front.tag f.handed e f.left → RefusesAs tag (MeansIn c.mode) (RefusesIn c.mode) c e d
-    refused_content (by_closure a) = refused_octets (handed_is_octets f.front.tag f.handed f.left (Err e) a) (answered_reads c.mode f.front.tag f.handed f.left (Err e) a f.hands.mode).refused
+    refused_content (by_closure a) = refused_octets (handed_is_octets f.front.tag f.handed f.left (Err e) a)
+        (answered_reads c.mode f.front.tag f.handed f.left (Err e) a f.hands.mode).refused
     refused_content (unfinished y l a m k z) =
         let b = left_is_octets f.front.tag f.handed l (Ok y) a in
         let r = answered_reads c.mode f.front.tag f.handed l (Ok y) a f.hands.mode in
@@ -189,11 +240,18 @@ module _ {C T X : Type 0} (view : C → Reading) (post : Tag → MutBor C → Re
     refused_unmarked (by_closure a) = (answered_reads c.mode f.front.tag f.handed f.left (Err e) a f.hands.mode).marked ∙ f.hands.marked
     refused_unmarked (unfinished y l a m k z) = k ∙ (answered_reads c.mode f.front.tag f.handed l (Ok y) a f.hands.mode).marked ∙ f.hands.marked
 
-  refused_as : (c d : Reading) → Within c → (e : DecodeError X) → RefusesTake view post (Some true) (tagged tag) c e d → RefusesAs tag (MeansIn c.mode) (RefusesIn c.mode) c e d
+  refused_as : (c d : Reading) → Within c → (e : DecodeError X) → RefusesTake view post (Some true) (tagged tag) c e d
+      → RefusesAs tag (MeansIn c.mode) (RefusesIn c.mode) c e d
   refused_as c d w e (by_header (content.RefusesHeader.failed s a) m) = typed.RefusesAs.failed s a
   refused_as c d w e (by_header (content.RefusesHeader.source s g) m) = typed.RefusesAs.source s g
-  refused_as c d w e (by_header (content.RefusesHeader.nothing n a) m) = typed.RefusesAs.broken (record { usable = n.usable; value = λ contents u rest h. (let x = primitive_header tag c w contents u rest h in n.header x.0 x.1); absent = n.absent }) (names_front (tagged tag) c (cause_of e) a)
-  refused_as c d w e (by_form f a m) = typed.RefusesAs.broken (record { usable = f.usable; value = no_other_form tag c f; absent = λ rest. header_not_absent tag c f.after rest f.usable f.front }) (behind_header (tagged tag) c (cause_of e) a f.after f.front)
+  refused_as c d w e (by_header (content.RefusesHeader.nothing n a) m) = typed.RefusesAs.broken
+      (record { usable = n.usable; value = λ contents u rest h. (let x = primitive_header tag c w contents u rest h in n.header x.0 x.1); absent = n.absent })
+      (names_front (tagged tag) c (cause_of e) a)
+  refused_as c d w e (by_form f a m) = typed.RefusesAs.broken (record {
+    usable = f.usable;
+    value = no_other_form tag c f;
+    absent = λ rest. header_not_absent tag c f.after rest f.usable f.front;
+  }) (behind_header (tagged tag) c (cause_of e) a f.after f.front)
   refused_as c d w e (by_content f) = refused_content c d w e f f.refuses
 
   -- no mode was changed
@@ -204,21 +262,59 @@ module _ {C T X : Type 0} (view : C → Reading) (post : Tag → MutBor C → Re
 
   -- ---- what the calls say
 
-  pub next_as : (c d : Reading) (r : Result (Option T) (DecodeError X)) → Within c → TakesNext view post (Some true) (tagged tag) c r d → TakesNextAs tag (MeansIn c.mode) (RefusesIn c.mode) c r d
-  next_as c d (Ok (Some x)) w n = record { value = taken_as c d w x n.value; none = tt; no_fault = taken_faults c d w x n.value; refused = tt; failed = tt; mode = n.mode; marked = taken_marked c d w x n.value }
-  next_as c d (Ok None) w n = (let h : HasNone (tagged tag) c d = n.none in record { value = tt; none = h; no_fault = h.no_fault; refused = tt; failed = tt; mode = n.mode; marked = h.marked })
-  next_as c d (Err e) w n = record { value = tt; none = tt; no_fault = tt; refused = refused_as c d w e n.refused; failed = n.failed; mode = n.mode; marked = refused_marked c d w e n.refused }
+  pub next_as : (c d : Reading) (r : Result (Option T) (DecodeError X)) → Within c → TakesNext view post (Some true) (tagged tag) c r d
+      → TakesNextAs tag (MeansIn c.mode) (RefusesIn c.mode) c r d
+  next_as c d (Ok (Some x)) w n = record {
+    value = taken_as c d w x n.value;
+    none = tt;
+    no_fault = taken_faults c d w x n.value;
+    refused = tt;
+    failed = tt;
+    mode = n.mode;
+    marked = taken_marked c d w x n.value;
+  }
+  next_as c d (Ok None) w n = (let h : HasNone (tagged tag) c d = n.none in
+      record { value = tt; none = h; no_fault = h.no_fault; refused = tt; failed = tt; mode = n.mode; marked = h.marked })
+  next_as c d (Err e) w n = record {
+    value = tt;
+    none = tt;
+    no_fault = tt;
+    refused = refused_as c d w e n.refused;
+    failed = n.failed;
+    mode = n.mode;
+    marked = refused_marked c d w e n.refused;
+  }
 
-  pub one_as : (c d : Reading) (r : Result T (DecodeError X)) → Within c → Takes view post (Some true) (tagged tag) c r d → TakesOneAs tag (MeansIn c.mode) (RefusesIn c.mode) c r d
-  one_as c d (Ok x) w n = record { value = taken_as c d w x n.value; no_fault = taken_faults c d w x n.value; refused = tt; mode = n.mode; marked = taken_marked c d w x n.value }
-  one_as c d (Err e) w n = record { value = tt; no_fault = tt; refused = elim n.refused [ inl h ↦ inl h | inr h ↦ inr (h.0, refused_as c d w e h.1) ]; mode = n.mode; marked = elim n.refused [ inl h ↦ h.0.marked | inr h ↦ refused_marked c d w e h.1 ] }
+  pub one_as : (c d : Reading) (r : Result T (DecodeError X)) → Within c → Takes view post (Some true) (tagged tag) c r d
+      → TakesOneAs tag (MeansIn c.mode) (RefusesIn c.mode) c r d
+  one_as c d (Ok x) w n =
+      record { value = taken_as c d w x n.value; no_fault = taken_faults c d w x n.value; refused = tt; mode = n.mode; marked = taken_marked c d w x n.value }
+  one_as c d (Err e) w n = record {
+    value = tt;
+    no_fault = tt;
+    refused = elim n.refused [ inl h ↦ inl h | inr h ↦ inr (h.0, refused_as c d w e h.1) ];
+    mode = n.mode;
+    marked = elim n.refused [ inl h ↦ h.0.marked | inr h ↦ refused_marked c d w e h.1 ];
+  }
 
-  pub passes_as : (x : T) → ((y : T) → y ≡ x) → (c d : Reading) (o : Option T) → Within c → TakesNext view post (Some true) (tagged tag) c (Ok o) d → PassesNextAs tag (MeansIn c.mode) (RefusesIn c.mode) c (Ok x) d
-  passes_as x only c d (Some y) w n = record { value = inl (subst (λ z. TakesAs tag (MeansIn c.mode) (RefusesIn c.mode) c z d) (only y) (taken_as c d w y n.value)); no_fault = taken_faults c d w y n.value; refused = tt; failed = tt; mode = n.mode; marked = taken_marked c d w y n.value }
-  passes_as x only c d None w n = (let h : HasNone (tagged tag) c d = n.none in record { value = inr h; no_fault = h.no_fault; refused = tt; failed = tt; mode = n.mode; marked = h.marked })
+  pub passes_as : (x : T) → ((y : T) → y ≡ x) → (c d : Reading) (o : Option T) → Within c → TakesNext view post (Some true) (tagged tag) c (Ok o) d
+      → PassesNextAs tag (MeansIn c.mode) (RefusesIn c.mode) c (Ok x) d
+  passes_as x only c d (Some y) w n =
+      record {
+        value = inl (subst (λ z. TakesAs tag (MeansIn c.mode) (RefusesIn c.mode) c z d) (only y) (taken_as c d w y n.value));
+        no_fault = taken_faults c d w y n.value;
+        refused = tt;
+        failed = tt;
+        mode = n.mode;
+        marked = taken_marked c d w y n.value;
+      }
+  passes_as x only c d None w n = (let h : HasNone (tagged tag) c d = n.none in
+      record { value = inr h; no_fault = h.no_fault; refused = tt; failed = tt; mode = n.mode; marked = h.marked })
 
-  pub refuses_as : (c d : Reading) (e : DecodeError X) → Within c → TakesNext view post (Some true) (tagged tag) c (Err e) d → PassesNextAs tag (MeansIn c.mode) (RefusesIn c.mode) c (Err e) d
-  refuses_as c d e w n = record { value = tt; no_fault = tt; refused = refused_as c d w e n.refused; failed = n.failed; mode = n.mode; marked = refused_marked c d w e n.refused }
+  pub refuses_as : (c d : Reading) (e : DecodeError X) → Within c → TakesNext view post (Some true) (tagged tag) c (Err e) d
+      → PassesNextAs tag (MeansIn c.mode) (RefusesIn c.mode) c (Err e) d
+  refuses_as c d e w n =
+      record { value = tt; no_fault = tt; refused = refused_as c d w e n.refused; failed = n.failed; mode = n.mode; marked = refused_marked c d w e n.refused }
 
 -- contents octets, as the calls see them
 pub octets_form : {S : Type 0} (stream : S → Stream) (x : Primitive S) → ((of_primitive stream x).kind ≡ Octets) × ((of_primitive stream x).state ≡ Open)

@@ -1,5 +1,6 @@
 -- The limit around open values.
-use Rattle.std.proofs.Common.{◌≡◌, ℕ, zero, suc, ◌+◌, ◌^◌, ◌<◌, ◌≤◌, true, List, [], ◌∷◌, ◌++◌, Option, Some, None, is_some, IfSome, length, reverse, sym, ap, ◌∙◌, refl, arith}
+use Rattle.std.proofs.Common.{◌≡◌, ℕ, zero, suc, ◌+◌, ◌^◌, ◌<◌, ◌≤◌, true, List, [], ◌∷◌, ◌++◌, Option, Some, None}
+use Rattle.std.proofs.Common.{is_some, IfSome, length, reverse, sym, ap, ◌∙◌, refl, arith}
 use Rattle.std.proofs.lemmas.List.{length-reverse, reverse-append}
 use Rattle.bcder.specs.steps.Stacked.{Entry, Definite, Indefinite, limit_around, unwound, Counts, indefinites, around, framed, IsCounted, TopIs}
 use Rattle.bcder.specs.declared.decode.content.Kind.{Kind}
@@ -45,7 +46,8 @@ no_room v r h e = elim (cases_lt (small_vec_len v) v.capacity) [
     wrong (Err x) a b = cc
 
 pub full_deep : (v : OpenValues) → IsCounted v → v.frames.now.capacity ≤ small_vec_len v.frames.now → 4 ≤ v.depth
-full_deep v c l = (let x : 4 ≤ v.frames.now.capacity = c.inline in omega (arith, c.depth, indefinites_count v.indefinite (framed v.frames.now), around_count (reverse v.frames.now.items), length-reverse v.frames.now.items))
+full_deep v c l = (let x : 4 ≤ v.frames.now.capacity = c.inline in
+    omega (arith, c.depth, indefinites_count v.indefinite (framed v.frames.now), around_count (reverse v.frames.now.items), length-reverse v.frames.now.items))
 
 pub top_definite : (n : ℕ) (fs : List Frame) (k : Kind) → n ≤ 0 → k ≡ kind.Definite → TopIs (indefinites n (around fs)) k
 top_definite zero [] k l e = refl
@@ -68,8 +70,10 @@ unwound_least (Definite None ∷ es) n m e = absurd (none_is m (sym (unwound_non
 unwound_least (Definite (Some b) ∷ es) n m e = let x : b + n ≤ m = unwound_least es (b + n) m e in omega arith
 unwound_least (Indefinite ∷ es) n m e = unwound_least es n m e
 
-pub unwound_frame : (es fs : List Frame) (top : Frame) (o u : Option ℕ) → es ≡ top ∷ fs → unwound (around es) o ≡ u → unwound (around fs) (limit_around top.behind o) ≡ u
-unwound_frame es fs top o u e h = sym (unwound_indefinites top.indefinite_around (around fs) (limit_around top.behind o)) ∙ sym (ap (λ x. unwound (around x) o) e) ∙ h
+pub unwound_frame : (es fs : List Frame) (top : Frame) (o u : Option ℕ) → es ≡ top ∷ fs → unwound (around es) o ≡ u
+    → unwound (around fs) (limit_around top.behind o) ≡ u
+unwound_frame es fs top o u e h =
+    sym (unwound_indefinites top.indefinite_around (around fs) (limit_around top.behind o)) ∙ sym (ap (λ x. unwound (around x) o) e) ∙ h
 
 pub counted : (es : List Entry) (o outer u : Option ℕ) → Counts outer u → is_some outer ≡ true → unwound es o ≡ u → IfSome o (λ n. n < 2 ^ 64)
 counted es None outer u c s e = tt

@@ -1,5 +1,6 @@
 -- UTF-8: octet by octet, and a text in front of others.
-use Rattle.std.proofs.Common.{◌≡◌, ◌≢◌, ◌↔◌, ℕ, zero, suc, ◌<◌, ◌≤◌, List, [], ◌∷◌, ◌++◌, length, take, drop, drop_at, take_at, Some, None, refl, sym, ap, ◌∙◌, subst, append_assoc, arith}
+use Rattle.std.proofs.Common.{◌≡◌, ◌≢◌, ◌↔◌, ℕ, zero, suc, ◌<◌, ◌≤◌, List, [], ◌∷◌, ◌++◌, length, take, drop, drop_at}
+use Rattle.std.proofs.Common.{take_at, Some, None, refl, sym, ap, ◌∙◌, subst, append_assoc, arith}
 use Rattle.std.specs.Prelude.{Option, Bool, true, false, if◌then◌else◌, Result, Ok, Err, IsErrAnd, MatchResult}
 use Rattle.std.proofs.Math.ListN.{take-append-drop}
 use Rattle.std.proofs.lemmas.Bool.{cond-true, cond-false}
@@ -44,12 +45,14 @@ no_tail n c (b ∷ u) e = by (is_in_range 0x80 0xBF b) refl e
     by true is e = absurd cc
     by false is e = cond-false _ _ _ is
 
-behind_none : (bits low high n : ℕ) (w : List ℕ) (c : ℕ) (u : List ℕ) → n ≢ 0 → Second bits low high w ≡ Some (record { char = c; rest = u }) → Second c 0x80 0xBF u ≡ None
+behind_none : (bits low high n : ℕ) (w : List ℕ) (c : ℕ) (u : List ℕ) → n ≢ 0 → Second bits low high w ≡ Some (record { char = c; rest = u })
+    → Second c 0x80 0xBF u ≡ None
     → read_behind (record { bits = bits; low = low; high = high; tails = n }) w ≡ None
 behind_none bits low high zero w c u some e none = absurd (some refl)
 behind_none bits low high (suc n) w c u some e none = behind_second bits low high (suc n) w c u e ∙ no_tail n c u none
 
-pub behind_refused : {A E : Type 0} (r : Result A E) (e : E) (P : A → Type 0) (bits low high n : ℕ) (w : List ℕ) (c : ℕ) (u : List ℕ) → IsErrAnd r (λ x. x ≡ e) → n ≢ 0
+pub behind_refused : {A E : Type 0} (r : Result A E) (e : E) (P : A → Type 0) (bits low high n : ℕ) (w : List ℕ) (c : ℕ) (u : List ℕ)
+    → IsErrAnd r (λ x. x ≡ e) → n ≢ 0
     → Second bits low high w ≡ Some (record { char = c; rest = u }) → Second c 0x80 0xBF u ≡ None
     → MatchResult r P (λ _. read_behind (record { bits = bits; low = low; high = high; tails = n }) w ≡ None)
 behind_refused (Ok a) e P bits low high n w c u is some h none = absurd is
@@ -68,11 +71,13 @@ of_more a rest o h is = let t : is_in_range 0x00 0x7F a ≡ false = grind (arith
 pub of_none : (a : ℕ) (w rest : List ℕ) → w ≡ a ∷ rest → 128 ≤ a → lead a ≡ None → (w ≢ []) × (utf8_step w ≡ None)
 of_none a w rest e h is = (λ n. let x : a ∷ rest ≡ [] = sym e ∙ n in absurd cc, ap utf8_step e ∙ of_more a rest None h is)
 
-pub of_several : (a : ℕ) (w rest u : List ℕ) (l : Lead) (c d : ℕ) → w ≡ a ∷ rest → 128 ≤ a → lead a ≡ Some l → read_behind l rest ≡ Some (record { char = c; rest = u }) → d ≡ c
+pub of_several : (a : ℕ) (w rest u : List ℕ) (l : Lead) (c d : ℕ) → w ≡ a ∷ rest → 128 ≤ a → lead a ≡ Some l
+    → read_behind l rest ≡ Some (record { char = c; rest = u }) → d ≡ c
     → utf8_step w ≡ Some (record { char = d; rest = u })
 of_several a w rest u l c d e h is read same = ap utf8_step e ∙ of_more a rest (Some l) h is ∙ read ∙ (λ i. Some (record { char = sym same i; rest = u }))
 
-pub of_refused : (r : Result (Option ℕ) CharSetError) (x : CharSetError) (a : ℕ) (w rest u : List ℕ) (l : Lead) → IsErrAnd r (λ y. y ≡ x) → w ≡ a ∷ rest → 128 ≤ a → lead a ≡ Some l
+pub of_refused : (r : Result (Option ℕ) CharSetError) (x : CharSetError) (a : ℕ) (w rest u : List ℕ) (l : Lead) → IsErrAnd r (λ y. y ≡ x) → w ≡ a ∷ rest
+    → 128 ≤ a → lead a ≡ Some l
     → read_behind l rest ≡ None → NextChar utf8_step w r u
 of_refused (Ok o) x a w rest u l err e h is none = absurd err
 of_refused (Err y) x a w rest u l err e h is none =
@@ -103,7 +108,8 @@ behind_text v w u all =
 pub text_passed : (all part more rest : List ℕ) (n : ℕ) → IsUtf8 (take n part) → rest ≡ drop n part ++ more
     → IsOfSet utf8_step all ↔ IsOfSet utf8_step (part ++ more) → IsOfSet utf8_step all ↔ IsOfSet utf8_step rest
 text_passed all part more rest n u e k =
-    let split : part ++ more ≡ take n part ++ rest = ap (λ v. v ++ more) (sym (take-append-drop n part)) ∙ append_assoc (take n part) (drop n part) more ∙ ap (λ v. take n part ++ v) (sym e) in (
+    let split : part ++ more ≡ take n part ++ rest =
+    ap (λ v. v ++ more) (sym (take-append-drop n part)) ∙ append_assoc (take n part) (drop n part) more ∙ ap (λ v. take n part ++ v) (sym e) in (
       λ a. a_text rest (behind_text (take n part) rest u (subst IsUtf8 split ((utf8_accepts (part ++ more)).0 (k.0 a)))),
       λ a. k.1 (a_text (part ++ more) (subst IsUtf8 (sym split) (IsUtf8-append (take n part) rest u ((utf8_accepts rest).0 a)))),
     )

@@ -1,5 +1,6 @@
 -- Which rule octets violate that are no header, whatever follows them.
-use Rattle.std.proofs.Common.{◌≡◌, ◌≢◌, ◌⊎◌, ℕ, zero, suc, ◌+◌, ◌-◌, ◌%◌, ◌<◌, ◌≤◌, Bool, true, false, List, [], ◌∷◌, ◌++◌, length, get_or, take, drop, Option, Some, None, refl, sym, ap, ◌∙◌, append_assoc, arith, inl, inr}
+use Rattle.std.proofs.Common.{◌≡◌, ◌≢◌, ◌⊎◌, ℕ, zero, suc, ◌+◌, ◌-◌, ◌%◌, ◌<◌, ◌≤◌, Bool, true, false, List, [], ◌∷◌, ◌++◌, length, get_or}
+use Rattle.std.proofs.Common.{take, drop, Option, Some, None, refl, sym, ap, ◌∙◌, append_assoc, arith, inl, inr}
 use Rattle.std.proofs.lemmas.Bool.{cases_lt, lt-ltb, le-ltb, lt-leb, le-leb}
 use Rattle.std.proofs.lemmas.List.{take-append-drop, length-take-le}
 use Rattle.bcder.specs.declared.mode.Mode.{Mode}
@@ -7,11 +8,13 @@ use Rattle.bcder.specs.declared.mode.Mode.TheVariants.{Ber, Cer, Der}
 use Rattle.bcder.specs.declared.length.Length.{Length}
 use Rattle.bcder.specs.declared.length.Length.TheVariants.{Definite, Indefinite}
 use Rattle.bcder.specs.declared.decode.violation.Violation.TheVariants as v
-use Rattle.bcder.specs.x690.Identifier.{AreOctets, Class, universal, application, context_specific, private, Tag, IsTag, identifier, end_of_contents, is_value_tag}
+use Rattle.bcder.specs.x690.Identifier.{AreOctets, Class, universal, application, context_specific, private, Tag}
+use Rattle.bcder.specs.x690.Identifier.{IsTag, identifier, end_of_contents, is_value_tag}
 use Rattle.bcder.specs.x690.Length.{big_endian, IsLongForm, IsShortest}
 use Rattle.bcder.specs.x690.Encoding.{may_have}
 use Rattle.bcder.specs.x690.Broken.{EndsInTag, HasTag, HasLength, IsDefinite, EndsInLength, EndsInHeader, LengthNotFewest}
-use Rattle.bcder.specs.calls.Violations.{HasNoEnd, ViolatesFront, tag_not_fewest, tag_too_large, reserved_tag, reserved_length, length_too_large, length_not_fewest, primitive_indefinite, indefinite_in_der, definite_in_cer}
+use Rattle.bcder.specs.calls.Violations.{HasNoEnd, ViolatesFront, tag_not_fewest, tag_too_large, reserved_tag, reserved_length, length_too_large}
+use Rattle.bcder.specs.calls.Violations.{length_not_fewest, primitive_indefinite, indefinite_in_der, definite_in_cer}
 use Rattle.bcder.specs.steps.Reading.{may_tell, read_long, read_length, third_digit, second_digit, read_number, read_identifier, read_header, read_end}
 use Rattle.bcder.specs.steps.Peek.{HasHeaderOctets}
 use Rattle.bcder.specs.laws.Sound.{none_is, AreOctets-take}
@@ -149,7 +152,8 @@ not_shortest Ber n w form e s = let z : true ≡ false = e in cc
 not_shortest Cer n w form e s = let z = sym (may_tell-shortest Cer n w (inr form, s) form) ∙ e in cc
 not_shortest Der n w form e s = let z = sym (may_tell-shortest Der n w (inr form, s) form) ∙ e in cc
 
-pub length_long : (mode : Mode) (y x : List ℕ) → 1 ≤ length y → get_or y 0 0 ≤ 0x84 → get_or y 0 0 ≤ length y + 127 → AreOctets y → read_length mode y ≡ None → LengthNotFewest mode (y ++ x)
+pub length_long : (mode : Mode) (y x : List ℕ) → 1 ≤ length y → get_or y 0 0 ≤ 0x84 → get_or y 0 0 ≤ length y + 127 → AreOctets y → read_length mode y ≡ None
+    → LengthNotFewest mode (y ++ x)
 length_long mode [] x s l m o e = absurd (omega arith)
 length_long mode (b ∷ ds) x s l m o e =
     let p = long_unread mode b ds e in
@@ -158,7 +162,14 @@ length_long mode (b ∷ ds) x s l m o e =
     let size : length (take k ds) ≡ k = length-take-le k ds few in
     let t = told_few mode k ds (omega (arith, p.0)) few p.1 in
     let head : b ≡ 0x80 + length (take k ds) = omega (arith, size, p.0) in
-    let form : IsLongForm (big_endian (take k ds)) (b ∷ take k ds) = record { digits = take k ds; is = ap (λ z. z ∷ take k ds) head; some = omega (arith, size, p.0); limit = omega (arith, size, p.0); octets = AreOctets-take k ds (λ i. o (suc i)); number = refl } in
+    let form : IsLongForm (big_endian (take k ds)) (b ∷ take k ds) = record {
+      digits = take k ds;
+      is = ap (λ z. z ∷ take k ds) head;
+      some = omega (arith, size, p.0);
+      limit = omega (arith, size, p.0);
+      octets = AreOctets-take k ds (λ i. o (suc i));
+      number = refl;
+    } in
     record {
       number = big_endian (take k ds);
       octets = b ∷ take k ds;
@@ -188,7 +199,8 @@ module _ (mode : Mode) (t : Tag) (f : Bool) (w y x : List ℕ) (i : IsTag t) (s 
       first [] l e = absurd (omega arith)
       first (b ∷ z) l e = let n : b ≡ 0x80 + (b - 0x80) = omega arith in (b - 0x80, z ++ x, ap (λ a. a ∷ (z ++ x)) n, omega arith)
 
-  pub long_violated : 1 ≤ length y → get_or y 0 0 ≤ 0x84 → get_or y 0 0 ≤ length y + 127 → AreOctets y → read_length mode y ≡ None → ViolatesFront mode w v.LengthNotFewest
+  pub long_violated : 1 ≤ length y → get_or y 0 0 ≤ 0x84 → get_or y 0 0 ≤ length y + 127 → AreOctets y → read_length mode y ≡ None
+      → ViolatesFront mode w v.LengthNotFewest
   long_violated l m n o e = length_not_fewest refl (behind_tag _ (length_long mode y x l m n o e))
 
 pub ruleset length_violated = (count_decides, first_decides, length_ends, reserved_violated, count_violated, long_violated)
@@ -233,12 +245,15 @@ module _ (mode : Mode) (t : Tag) (f : Bool) (len : Length) (w : List ℕ) (h : H
   der_violated a b e = indefinite_in_der refl (der_alone mode (rw (a, b) at e)) (of_form (λ t f y. HasLength mode (λ n. n ≡ Indefinite) y) (of_length _ b))
 
   pub cer_violated : (n : ℕ) → len ≡ Definite n → may_have mode f len ≡ false → ViolatesFront mode w v.DefiniteInCer
-  cer_violated n b e = let p = cer_alone mode f n (rw b at e) in definite_in_cer refl p.0 (of_form (λ t f y. (f ≡ true) × HasLength mode IsDefinite y) (p.1, of_length _ (n, b)))
+  cer_violated n b e =
+      let p = cer_alone mode f n (rw b at e) in
+      definite_in_cer refl p.0 (of_form (λ t f y. (f ≡ true) × HasLength mode IsDefinite y) (p.1, of_length _ (n, b)))
 
 -- ---- headers
 
 -- identifier octets and length octets that are no header have a form that isn't allowed, or a tag that no value has
-pub form_refused : (mode : Mode) (w : List ℕ) (t : Tag) (f : Bool) (y : List ℕ) (l : Length × List ℕ) → read_identifier w ≡ Some (t, f, y) → read_length mode y ≡ Some l → read_header mode w ≡ None → is_value_tag t ≡ true → may_have mode f l.0 ≡ false
+pub form_refused : (mode : Mode) (w : List ℕ) (t : Tag) (f : Bool) (y : List ℕ) (l : Length × List ℕ) → read_identifier w ≡ Some (t, f, y)
+    → read_length mode y ≡ Some l → read_header mode w ≡ None → is_value_tag t ≡ true → may_have mode f l.0 ≡ false
 unfolding read_header
 form_refused mode w t f y l i e h a = go (may_have mode f l.0) refl
   where
@@ -246,13 +261,15 @@ form_refused mode w t f y l i e h a = go (may_have mode f l.0) refl
     go false q = q
     go true q = absurd (none_is _ (sym (rw (i, a, e, q) at h)))
 
-pub header_octets : (mode : Mode) (w : List ℕ) (t : Tag) (f : Bool) (y : List ℕ) (len : Length) (z x : List ℕ) → HasIdentifier w t f y → begins.HasLength mode y len z → HasHeaderOctets mode t f len (w ++ x)
+pub header_octets : (mode : Mode) (w : List ℕ) (t : Tag) (f : Bool) (y : List ℕ) (len : Length) (z x : List ℕ) → HasIdentifier w t f y
+    → begins.HasLength mode y len z → HasHeaderOctets mode t f len (w ++ x)
 header_octets mode w t f y len z x i l = record {
   is_tag = i.fits;
   octets = l.octets;
   others = z ++ x;
   tells = l.tells;
-  is = ap (λ a. a ++ x) i.is ∙ append_assoc (identifier t f) y x ∙ ap (λ a. identifier t f ++ (a ++ x)) l.is ∙ ap (λ a. identifier t f ++ a) (append_assoc l.octets z x);
+  is = ap (λ a. a ++ x) i.is ∙ append_assoc (identifier t f) y x ∙ ap (λ a. identifier t f ++ (a ++ x)) l.is
+      ∙ ap (λ a. identifier t f ++ a) (append_assoc l.octets z x);
 }
 
 pub no_end : (mode : Mode) (w : List ℕ) → read_end mode w ≡ None → HasNoEnd mode w

@@ -25,14 +25,17 @@ use Rattle.bcder.proofs.WalkSteps.{no_value_of_nothing, end_of_nothing, refused_
 abbrev pub WalksContent : {C T E : Type 0} → (E → Cause ContentError) → (C → Reading) → (Tag → MutBor C → Result T E → MutBor C → Type 0) → Type 0
 WalksContent {C} {T} {E} why view post = (t : Tag) (p : MutBor C) (r : Result T E) (q : MutBor C) → post t p r q → WalksBy why (view p.now) r (view q.now)
 
-module _ {C T E : Type 0} (why : E → Cause ContentError) (view : C → Reading) (post : Tag → MutBor C → Result T E → MutBor C → Type 0) (k : WalksContent why view post) where
+module _ {C T E : Type 0} (why : E → Cause ContentError) (view : C → Reading) (post : Tag → MutBor C → Result T E → MutBor C → Type 0)
+    (k : WalksContent why view post) where
   walks_by : (t : Tag) (i j : Reading) (r : Result T E) → Answered {R = Result T E} view (post t) i r j → WalksBy why i r j
   walks_by t i j r a = subst (λ z. WalksBy why z r j) a.handed_is (subst (λ z. WalksBy why (view a.handed.now) r z) a.left_is (k t a.handed r a.left a.called))
 
   -- ---- refused
 
-  front_refused : (c d : Reading) (e : E) (f : RefusesFront why view post any c e d) → RefusesContent why view post f.front.tag f.handed e f.left → ((why e ≡ of_source) × Grew c.stream.faults d.stream.faults) ⊎ (NoValue c × IsOfContent (why e))
-  front_refused c d e f (by_closure x) = refused_inside why e c d f.handed f.left f.after f.front f.hands (no_fewer _ _ f.faults_handed) f.faults_left (walks_by f.front.tag f.handed f.left (Err e) x).refused
+  front_refused : (c d : Reading) (e : E) (f : RefusesFront why view post any c e d) → RefusesContent why view post f.front.tag f.handed e f.left
+      → ((why e ≡ of_source) × Grew c.stream.faults d.stream.faults) ⊎ (NoValue c × IsOfContent (why e))
+  front_refused c d e f (by_closure x) = refused_inside why e c d f.handed f.left f.after f.front f.hands (no_fewer _ _ f.faults_handed) f.faults_left
+      (walks_by f.front.tag f.handed f.left (Err e) x).refused
   front_refused c d e f (unfinished y l x m k z) =
       let w = walks_by f.front.tag f.handed l (Ok y) x in
       inl (refused_left why e c d f.handed f.left f.after f.front f.hands (no_fewer _ _ f.faults_handed) f.faults_left l w.done w.moves z)
@@ -40,13 +43,15 @@ module _ {C T E : Type 0} (why : E → Cause ContentError) (view : C → Reading
   walk_refused : (c d : Reading) (e : E) → Within c → RefusesValue why view post any c e d → walking.RefusesWalk why c e d
   walk_refused c d e w (calls.RefusesValue.failed s a) = walking.RefusesWalk.failed s a
   walk_refused c d e w (calls.RefusesValue.source k s) = walking.RefusesWalk.source k s
-  walk_refused c d e w (calls.RefusesValue.nothing n a) = walking.RefusesWalk.nothing n.usable (no_value_of_nothing c w n) (end_of_nothing c n) (names_front any c (why e) a)
+  walk_refused c d e w (calls.RefusesValue.nothing n a) =
+      walking.RefusesWalk.nothing n.usable (no_value_of_nothing c w n) (end_of_nothing c n) (names_front any c (why e) a)
   walk_refused c d e w (calls.RefusesValue.content f) = elim (front_refused c d e f f.refuses) [
     | inl s ↦ walking.RefusesWalk.source s.0 s.1
     | inr n ↦ walking.RefusesWalk.nothing f.usable n.0 (header_not_at_end c f.after w f.usable f.front) (behind_header any c (why e) n.1 f.after f.front)
   ]
 
-  pub refuses_walk : {U : Type 0} (c d : Reading) (r : Result U E) → Within c → IfErr r (λ e. RefusesValue why view post any c e d) → IfErr r (λ e. walking.RefusesWalk why c e d)
+  pub refuses_walk : {U : Type 0} (c d : Reading) (r : Result U E) → Within c → IfErr r (λ e. RefusesValue why view post any c e d)
+      → IfErr r (λ e. walking.RefusesWalk why c e d)
   refuses_walk c d (Ok x) w h = tt
   refuses_walk c d (Err e) w h = walk_refused c d e w h
 
@@ -57,17 +62,20 @@ module _ {C T E : Type 0} (why : E → Cause ContentError) (view : C → Reading
 
   takes_value : (c d : Reading) (x : T) → TakesValue view post any c x d → PassesValue c d
   takes_value c d x v =
-      let e : IsEncoding c.mode v.tree (v.front.octets ++ v.passed) = subst (λ b. IsEncoding (label c.mode b) v.tree (v.front.octets ++ v.passed)) (unmarked_inside c d x v) v.encodes in
+      let e : IsEncoding c.mode v.tree (v.front.octets ++ v.passed) =
+      subst (λ b. IsEncoding (label c.mode b) v.tree (v.front.octets ++ v.passed)) (unmarked_inside c d x v) v.encodes in
       let r : c.stream.rest ≡ (v.front.octets ++ v.passed) ++ d.stream.rest = v.front.rest ∙ sym (append_assoc v.front.octets v.passed d.stream.rest) in
       record {
         tree = v.tree;
         value = v.front.octets ++ v.passed;
         has = record { usable = v.usable; encodes = e; rest = r };
-        only = subst (λ z. IsOnly c.mode v.tree (v.front.octets ++ v.passed) z) (sym r) (only_at_front c.mode v.tree (v.front.octets ++ v.passed) d.stream.rest e);
+        only = subst (λ z. IsOnly c.mode v.tree (v.front.octets ++ v.passed) z) (sym r)
+            (only_at_front c.mode v.tree (v.front.octets ++ v.passed) d.stream.rest e);
         stays = v.stays;
       }
 
-  pub walks_one : (c d : Reading) (r : Result (Option T) E) → IfOk r (λ o. IfSome o (λ x. TakesValue view post any c x d)) → IfOk r (λ o. IfSome o (λ _. PassesValue c d))
+  pub walks_one : (c d : Reading) (r : Result (Option T) E) → IfOk r (λ o. IfSome o (λ x. TakesValue view post any c x d))
+      → IfOk r (λ o. IfSome o (λ _. PassesValue c d))
   walks_one c d (Ok None) h = tt
   walks_one c d (Ok (Some x)) h = takes_value c d x h
   walks_one c d (Err e) h = tt
@@ -86,10 +94,17 @@ module _ {E : Type 0} (why : E → Cause ContentError) (c d : Reading) where
   refused_end e after h n (walking.RefusesWalk.source k s) = n s
   refused_end e after h n (walking.RefusesWalk.nothing s x y a) = y.none after h
 
-  pub answers_next : {T : Type 0} (r : Result (Option T) E) → Within c → IfOk r (λ o. IfSome o (λ _. PassesValue c d)) → IfOk r (λ o. IfNone o (EndsAt c d)) → IfErr r (λ e. walking.RefusesWalk why c e d) → (Grew c.stream.faults d.stream.faults → ⊥) → AnswersNext c r d
-  answers_next (Ok None) w a b f n = record { found = λ t v after h. absurd (let z = value_not_at_end c w t v after h in z.none d.stream.rest b); ended = λ after h. refl }
-  answers_next (Ok (Some x)) w a b f n = record { found = λ t v after h. (refl, (let s = value_once c a.tree t a.value v d.stream.rest after a.has h in s.rest)); ended = λ after h. absurd (let z = value_not_at_end c w a.tree a.value d.stream.rest a.has in z.none after h) }
-  answers_next (Err e) w a b f n = record { found = λ t v after h. absurd (refused_value e t v after h n f); ended = λ after h. absurd (refused_end e after h n f) }
+  pub answers_next : {T : Type 0} (r : Result (Option T) E) → Within c → IfOk r (λ o. IfSome o (λ _. PassesValue c d)) → IfOk r (λ o. IfNone o (EndsAt c d))
+      → IfErr r (λ e. walking.RefusesWalk why c e d) → (Grew c.stream.faults d.stream.faults → ⊥) → AnswersNext c r d
+  answers_next (Ok None) w a b f n =
+      record { found = λ t v after h. absurd (let z = value_not_at_end c w t v after h in z.none d.stream.rest b); ended = λ after h. refl }
+  answers_next (Ok (Some x)) w a b f n =
+      record {
+        found = λ t v after h. (refl, (let s = value_once c a.tree t a.value v d.stream.rest after a.has h in s.rest));
+        ended = λ after h. absurd (let z = value_not_at_end c w a.tree a.value d.stream.rest a.has in z.none after h);
+      }
+  answers_next (Err e) w a b f n =
+      record { found = λ t v after h. absurd (refused_value e t v after h n f); ended = λ after h. absurd (refused_end e after h n f) }
 
 -- ---- what a call answered
 

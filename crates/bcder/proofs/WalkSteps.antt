@@ -1,5 +1,6 @@
 -- Walking finds the values that are there, and no others.
-use Rattle.std.proofs.Common.{◌≡◌, ◌≢◌, ℕ, ◌+◌, ◌-◌, ◌<◌, ◌≤◌, Bool, true, false, List, [], ◌++◌, length, take, Option, Some, None, refl, ap, sym, ◌∙◌, arith, length-append, append_assoc, append-nil, subst, inl, inr}
+use Rattle.std.proofs.Common.{◌≡◌, ◌≢◌, ℕ, ◌+◌, ◌-◌, ◌<◌, ◌≤◌, Bool, true, false, List, [], ◌++◌, length, take, Option, Some, None}
+use Rattle.std.proofs.Common.{refl, ap, sym, ◌∙◌, arith, length-append, append_assoc, append-nil, subst, inl, inr}
 use Rattle.std.specs.Prelude.{◌⊎◌, Result, Ok, Err, IsErrAnd}
 use Rattle.std.proofs.lemmas.List.{take_at}
 use Rattle.bcder.specs.declared.mode.Mode.{Mode}
@@ -13,7 +14,9 @@ use Rattle.bcder.specs.x690.Encoding.{IsEncoding, AreEncodings}
 use Rattle.bcder.specs.calls.Stream.{Grew}
 use Rattle.bcder.specs.declared.decode.error.ContentError.{ContentError}
 use Rattle.bcder.specs.calls.Cause.{Cause, of_source, IsOfContent}
-use Rattle.bcder.specs.calls.Content.{Reading, ContentForm, octets, values, Octets, DefiniteValues, IndefiniteValues, any, HasHeader, HasMarker, Moves, MovesBy, Falls, FitsOwed, IsDone, IsUsedUp, IsAtEnd, of_octets, of_definite, of_indefinite, of_unbounded, EndsBefore, EndsAt, NotAtEnd, NothingThere, NamesFront}
+use Rattle.bcder.specs.calls.Content.{Reading, ContentForm, octets, values, Octets, DefiniteValues, IndefiniteValues, any, HasHeader}
+use Rattle.bcder.specs.calls.Content.{HasMarker, Moves, MovesBy, Falls, FitsOwed, IsDone, IsUsedUp, IsAtEnd, of_octets, of_definite}
+use Rattle.bcder.specs.calls.Content.{of_indefinite, of_unbounded, EndsBefore, EndsAt, NotAtEnd, NothingThere, NamesFront}
 use Rattle.bcder.specs.calls.Calls.{Hands, IsFormOf, ContentOf, RefusesEnd, left_failed, source_failed, left_open}
 use Rattle.bcder.specs.calls.Walking.{HasValue, NoValue, PassesValue, ClosesBefore, HasValues, IsShort, AllBy, Walks}
 use Rattle.bcder.specs.calls.Walking as walking
@@ -28,7 +31,8 @@ use Rattle.bcder.proofs.Naming.{looked_alike, header_alike, front_named}
 -- ---- an encoding in front
 
 -- what is owed after a header, where an encoding stands there in full
-pub owed_after : (o : Option ℕ) (len : Length) (h total body : ℕ) → ((n : ℕ) → o ≡ Some n → total ≤ n) → total ≡ h + body → ((n : ℕ) → len ≡ Definite n → n ≤ body) → (q : Option ℕ) × Falls o h q × FitsOwed len q
+pub owed_after : (o : Option ℕ) (len : Length) (h total body : ℕ) → ((n : ℕ) → o ≡ Some n → total ≤ n) → total ≡ h + body
+    → ((n : ℕ) → len ≡ Definite n → n ≤ body) → (q : Option ℕ) × Falls o h q × FitsOwed len q
 owed_after None (Definite n) h total body f e g = (None, refl, refl)
 owed_after None Indefinite h total body f e g = (None, refl, refl)
 owed_after (Some o) (Definite n) h total body f e g = let x : total ≤ o = f o refl in let y : n ≤ body = g n refl in (Some (o - h), omega arith, omega arith)
@@ -40,8 +44,22 @@ module _ (c : Reading) (w : Within c) where
   header_there t v after k r =
       let h = header_of c.mode t v k in
       let e : c.stream.rest ≡ h.octets ++ (h.body ++ after) = r ∙ ap (λ z. z ++ after) h.is ∙ append_assoc h.octets h.body after in
-      let q = owed_after c.owed h.len (length h.octets) (length c.stream.rest) (length (h.body ++ after)) w.fits (ap length e ∙ length-append h.octets (h.body ++ after)) (λ n z. let y : n ≤ length h.body = h.fits n z in omega (arith, y, length-append h.body after)) in
-      (h.body ++ after, record { tag = h.tag; form = h.form; len = h.len; octets = h.octets; is_header = h.is_header; is_asked = refl; rest = e; owed = q.0; falls = q.1; fits = q.2 })
+      let q = owed_after c.owed h.len (length h.octets) (length c.stream.rest) (length (h.body ++ after)) w.fits (ap length e
+      ∙ length-append h.octets (h.body ++ after)) (λ n z. let y : n ≤ length h.body = h.fits n z in omega (arith, y, length-append h.body after)) in (
+        h.body ++ after,
+        record {
+          tag = h.tag;
+          form = h.form;
+          len = h.len;
+          octets = h.octets;
+          is_header = h.is_header;
+          is_asked = refl;
+          rest = e;
+          owed = q.0;
+          falls = q.1;
+          fits = q.2;
+        },
+      )
 
   pub no_value_of_nothing : NothingThere any c → NoValue c
   no_value_of_nothing n = record { none = λ t v after k r. let h = header_there t v after k r in n.header h.0 h.1 }
@@ -63,10 +81,12 @@ first_of m no_trees w h = inl h
 first_of m (t ∷ₜ ts) w h = inr (record { tree = t; trees = ts; front = h.0; others = h.1; first = h.2; rest = h.3; are = refl; is = h.4 })
 
 -- where no values are left, content is at its end
-ends_before : (c : Reading) (f : ContentForm) (all after : List ℕ) → c.kind ≡ f → c.state ≡ Open → ClosesBefore f c.mode c.owed all after → all ≡ [] → c.stream.rest ≡ all ++ after → (x : List ℕ) × EndsBefore c x
+ends_before : (c : Reading) (f : ContentForm) (all after : List ℕ) → c.kind ≡ f → c.state ≡ Open → ClosesBefore f c.mode c.owed all after → all ≡ []
+    → c.stream.rest ≡ all ++ after → (x : List ℕ) × EndsBefore c x
 ends_before c octets all after q s h e r = absurd h
 ends_before c (values kind.Definite) all after q s h e r = (after, inr (s, of_definite q (h ∙ ap (λ x. Some (length x)) e)))
-ends_before c (values kind.Indefinite) all after q s h e r = (h.0, inr (s, of_indefinite q (subst (λ z. HasMarker c.mode z h.0) (sym (r ∙ ap (λ x. x ++ after) e)) h.1)))
+ends_before c (values kind.Indefinite) all after q s h e r =
+    (h.0, inr (s, of_indefinite q (subst (λ z. HasMarker c.mode z h.0) (sym (r ∙ ap (λ x. x ++ after) e)) h.1)))
 ends_before c (values kind.Unbounded) all after q s h e r = (after, inr (s, of_unbounded q (r ∙ ap (λ x. x ++ after) e ∙ h)))
 
 pub no_values : (c : Reading) → c.state ≡ Open → NoValue c → NotAtEnd c → HasValues c → ⊥
@@ -84,7 +104,8 @@ falls_to (Some o) None a b n f e g = absurd (f refl)
 falls_to (Some o) (Some p) a b n f e g = ap Some (let z : o ≡ b = (let y : ◌≡◌ {A = Option ℕ} (Some o) (Some b) = e in cc) in omega arith)
 
 module _ (j k : Reading) (w : Within j) (one : PassesValue j k) (m : MovesBy j k) (mode : k.mode ≡ j.mode) where
-  closes_on : (f : ContentForm) (all others after : List ℕ) → ClosesBefore f j.mode j.owed all after → all ≡ one.value ++ others → ClosesBefore f j.mode k.owed others after
+  closes_on : (f : ContentForm) (all others after : List ℕ) → ClosesBefore f j.mode j.owed all after → all ≡ one.value ++ others
+      → ClosesBefore f j.mode k.owed others after
   closes_on octets all others after c e = c
   closes_on (values kind.Definite) all others after c e =
       let l : length m.passed ≡ length one.value = passed_length m.passed one.value k.stream.rest (sym m.rest ∙ one.has.rest) in
@@ -95,7 +116,8 @@ module _ (j k : Reading) (w : Within j) (one : PassesValue j k) (m : MovesBy j k
   values_more : (h : HasValues j) → First j.mode h.trees h.all → HasValues k
   values_more h f =
       let r : j.stream.rest ≡ f.front ++ (f.others ++ h.after) = h.rest ∙ ap (λ x. x ++ h.after) f.is ∙ append_assoc f.front f.others h.after in
-      let s = value_once j f.tree one.tree f.front one.value (f.others ++ h.after) k.stream.rest (record { usable = one.has.usable; encodes = f.first; rest = r }) one.has in
+      let s = value_once j f.tree one.tree f.front one.value (f.others ++ h.after) k.stream.rest
+      (record { usable = one.has.usable; encodes = f.first; rest = r }) one.has in
       let c : ClosesBefore j.kind j.mode k.owed f.others h.after = closes_on j.kind h.all f.others h.after h.closes (f.is ∙ ap (λ x. x ++ f.others) s.front) in
       record {
         trees = f.trees;
@@ -103,12 +125,14 @@ module _ (j k : Reading) (w : Within j) (one : PassesValue j k) (m : MovesBy j k
         after = h.after;
         encode = subst (λ x. AreEncodings x f.trees f.others) (sym mode) f.rest;
         rest = sym s.rest;
-        closes = subst (λ x. ClosesBefore k.kind x k.owed f.others h.after) (sym mode) (subst (λ x. ClosesBefore x j.mode k.owed f.others h.after) (sym m.kind) c);
+        closes = subst (λ x. ClosesBefore k.kind x k.owed f.others h.after) (sym mode)
+            (subst (λ x. ClosesBefore x j.mode k.owed f.others h.after) (sym m.kind) c);
       }
 
   pub values_after : HasValues j → HasValues k
   values_after h = elim (first_of j.mode h.trees h.all h.encode) [
-    | inl e ↦ absurd (let b = ends_before j j.kind h.all h.after refl one.has.usable h.closes e h.rest in let n = value_not_at_end j w one.tree one.value k.stream.rest one.has in n.none b.0 b.1)
+    | inl e ↦ absurd (let b = ends_before j j.kind h.all h.after refl one.has.usable h.closes e h.rest in
+        let n = value_not_at_end j w one.tree one.value k.stream.rest one.has in n.none b.0 b.1)
     | inr f ↦ values_more h f
   ]
 
@@ -129,7 +153,8 @@ module _ (j k : Reading) (w : Within j) (one : PassesValue j k) (m : MovesBy j k
 
   pub values_before : HasValues k → HasValues j
   values_before h =
-      let c : ClosesBefore j.kind j.mode k.owed h.all h.after = subst (λ x. ClosesBefore x j.mode k.owed h.all h.after) m.kind (subst (λ x. ClosesBefore k.kind x k.owed h.all h.after) mode h.closes) in
+      let c : ClosesBefore j.kind j.mode k.owed h.all h.after =
+      subst (λ x. ClosesBefore x j.mode k.owed h.all h.after) m.kind (subst (λ x. ClosesBefore k.kind x k.owed h.all h.after) mode h.closes) in
       record {
         trees = one.tree ∷ₜ h.trees;
         all = one.value ++ h.all;
@@ -146,7 +171,16 @@ module _ (j k : Reading) (w : Within j) (one : PassesValue j k) (m : MovesBy j k
 -- ---- a loop over the values
 
 pub walks_refl : (c : Reading) → Walks c c
-walks_refl c = record { moves = untouched_is_moved c; mode = refl; marked = refl; ended = λ f. f; failed = λ f. f; remain = λ h. h; were = λ h. h; front = λ n. record { rest = refl; kept = refl; owed = refl; kind = refl; state = refl; mode = refl; marked = refl; name = refl } }
+walks_refl c = record {
+  moves = untouched_is_moved c;
+  mode = refl;
+  marked = refl;
+  ended = λ f. f;
+  failed = λ f. f;
+  remain = λ h. h;
+  were = λ h. h;
+  front = λ n. record { rest = refl; kept = refl; owed = refl; kind = refl; state = refl; mode = refl; marked = refl; name = refl };
+}
 
 pub walks_value : (i j k : Reading) → Within j → Walks i j → Moves j k → k.mode ≡ j.mode → k.marked ≡ j.marked → PassesValue j k → Walks i k
 unfolding Moves
@@ -158,7 +192,8 @@ walks_value i j k n w m o g one = record {
   failed = λ f. absurd (open_not_failed k.state one.stays f);
   remain = λ h. values_after j k n one m o (w.remain h);
   were = λ h. w.were (values_before j k n one m o h);
-  front = λ q. (let h = header_there j n one.tree one.value k.stream.rest one.has.encodes one.has.rest in absurd (q.header h.0 (header_alike i j (looked_alike i j (w.front q)) any h.0 h.1)));
+  front = λ q. (let h = header_there j n one.tree one.value k.stream.rest one.has.encodes one.has.rest in
+      absurd (q.header h.0 (header_alike i j (looked_alike i j (w.front q)) any h.0 h.1)));
 }
 
 pub moves_faults : (c d : Reading) → Moves c d → c.stream.faults ≤ d.stream.faults
@@ -166,28 +201,55 @@ unfolding Moves
 moves_faults c d m = m.faults
 
 pub value_shorter : (c d : Reading) → PassesValue c d → length d.stream.rest + 2 ≤ length c.stream.rest
-value_shorter c d p = (let h : 2 ≤ length p.value = two_octets c.mode p.tree p.value p.has.encodes in omega (arith, ap length p.has.rest, length-append p.value d.stream.rest))
+value_shorter c d p =
+    (let h : 2 ≤ length p.value = two_octets c.mode p.tree p.value p.has.encodes in omega (arith, ap length p.has.rest, length-append p.value d.stream.rest))
 
 pub grew_from : (a b c : ℕ) → a ≤ b → Grew b c → Grew a c
-grew_from a b c h g = record { no_smaller = (let x : b ≤ c = g.no_smaller in omega arith); larger_or_last = elim g.larger_or_last [ inl x ↦ inl (omega arith) | inr x ↦ inr x ] }
+grew_from a b c h g =
+    record { no_smaller = (let x : b ≤ c = g.no_smaller in omega arith); larger_or_last = elim g.larger_or_last [ inl x ↦ inl (omega arith) | inr x ↦ inr x ] }
 
 -- the loop stops at an error
-pub walks_refused : {E : Type 0} (why : E → Cause ContentError) (e : E) (i j k : Reading) → i.kind ≢ Octets → Walks i j → walking.RefusesWalk why j e k → walking.RefusesValues why i e k
+pub walks_refused : {E : Type 0} (why : E → Cause ContentError) (e : E) (i j k : Reading) → i.kind ≢ Octets → Walks i j → walking.RefusesWalk why j e k
+    → walking.RefusesValues why i e k
 walks_refused why e i j k o w (walking.RefusesWalk.failed f a) = walking.RefusesValues.failed (w.failed f) a
 walks_refused why e i j k o w (walking.RefusesWalk.source s f) = walking.RefusesValues.source s (grew_from _ _ _ (moves_faults i j w.moves) f)
-walks_refused why e i j k o w (walking.RefusesWalk.nothing s n f a) = walking.RefusesValues.broken o (λ h. no_values j s n f (w.remain h)) (record { refused = a.refused; named = λ q. (let r = front_named i j (looked_alike i j (w.front q)) (why e) a in r.named q) })
+walks_refused why e i j k o w (walking.RefusesWalk.nothing s n f a) = walking.RefusesValues.broken o (λ h. no_values j s n f (w.remain h))
+    (record { refused = a.refused; named = λ q. (let r = front_named i j (looked_alike i j (w.front q)) (why e) a in r.named q) })
 
 -- and answers the error that it met
-pub all_refused : {T E : Type 0} (Refuses : Reading → E → Reading → Type 0) (c d : Reading) (r : Result T E) (e : E) → IsErrAnd r (λ x. x ≡ e) → Refuses c e d → d.state ≡ Failed → d.mode ≡ c.mode → d.marked ≡ c.marked → AllBy Refuses c r d
+pub all_refused : {T E : Type 0} (Refuses : Reading → E → Reading → Type 0) (c d : Reading) (r : Result T E) (e : E) → IsErrAnd r (λ x. x ≡ e) → Refuses c e d
+    → d.state ≡ Failed → d.mode ≡ c.mode → d.marked ≡ c.marked → AllBy Refuses c r d
 all_refused Refuses c d (Ok x) e h a f m g = absurd h
-all_refused Refuses c d (Err x) e h a f m g = record { all = tt; done = tt; no_fault = tt; refused = subst (λ y. Refuses c y d) (sym h) a; failed = f; mode = m; marked = g }
+all_refused Refuses c d (Err x) e h a f m g =
+    record { all = tt; done = tt; no_fault = tt; refused = subst (λ y. Refuses c y d) (sym h) a; failed = f; mode = m; marked = g }
 
 -- at the end no values are left
 pub none_left : (c : Reading) (after : List ℕ) → c.kind ≢ Octets → IsAtEnd c after → HasValues c
 none_left c after o (of_octets q e) = absurd (o q)
-none_left c after o (of_definite q e) = record { trees = no_trees; all = []; after = c.stream.rest; encode = refl; rest = refl; closes = subst (λ x. ClosesBefore x c.mode c.owed [] c.stream.rest) (sym q) e }
-none_left c after o (of_indefinite q m) = record { trees = no_trees; all = []; after = c.stream.rest; encode = refl; rest = refl; closes = subst (λ x. ClosesBefore x c.mode c.owed [] c.stream.rest) (sym q) (after, m) }
-none_left c after o (of_unbounded q e) = record { trees = no_trees; all = []; after = c.stream.rest; encode = refl; rest = refl; closes = subst (λ x. ClosesBefore x c.mode c.owed [] c.stream.rest) (sym q) e }
+none_left c after o (of_definite q e) = record {
+  trees = no_trees;
+  all = [];
+  after = c.stream.rest;
+  encode = refl;
+  rest = refl;
+  closes = subst (λ x. ClosesBefore x c.mode c.owed [] c.stream.rest) (sym q) e;
+}
+none_left c after o (of_indefinite q m) = record {
+  trees = no_trees;
+  all = [];
+  after = c.stream.rest;
+  encode = refl;
+  rest = refl;
+  closes = subst (λ x. ClosesBefore x c.mode c.owed [] c.stream.rest) (sym q) (after, m);
+}
+none_left c after o (of_unbounded q e) = record {
+  trees = no_trees;
+  all = [];
+  after = c.stream.rest;
+  encode = refl;
+  rest = refl;
+  closes = subst (λ x. ClosesBefore x c.mode c.owed [] c.stream.rest) (sym q) e;
+}
 
 pub none_left_trees : (c : Reading) (after : List ℕ) (o : c.kind ≢ Octets) (e : IsAtEnd c after) → (none_left c after o e).trees ≡ no_trees
 unfolding none_left
@@ -242,7 +304,8 @@ module _ (c i : Reading) (after : List ℕ) (f : HasHeader any c after) (g : Han
         after = e ++ x;
         encode = subst (λ z. AreEncodings z ts b) (sym g.mode) q;
         rest = r.1 ∙ y;
-        closes = subst (λ z. ClosesBefore z i.mode i.owed b (e ++ x)) (sym (form_indefinite f.form f.len i.kind l g.form)) (x, record { marker = e; is_end = subst (λ m. IsEndOfContents m e) (sym g.mode) z; rest = refl });
+        closes = subst (λ z. ClosesBefore z i.mode i.owed b (e ++ x)) (sym (form_indefinite f.form f.len i.kind l g.form))
+            (x, record { marker = e; is_end = subst (λ m. IsEndOfContents m e) (sym g.mode) z; rest = refl });
       })
 
   short_shape : (x : List ℕ) → i.kind ≡ Octets → IsShort i → Shape c.mode f.form f.len x after → ⊥
@@ -277,7 +340,8 @@ not_failed_done j (inr s) e = (let x : Open ≡ Failed = sym s.0 ∙ e in cc)
 pub grew_between : (a b c d : ℕ) → a ≤ b → Grew b c → c ≡ d → Grew a d
 grew_between a b c d h g e = subst (λ x. Grew a x) e (grew_from a b c h g)
 
-module _ {E : Type 0} (why : E → Cause ContentError) (e : E) (c d i j : Reading) (after : List ℕ) (f : HasHeader any c after) (g : Hands c.mode f.form f.len f.owed after i) (b : c.stream.faults ≤ i.stream.faults) (s : j.stream.faults ≡ d.stream.faults) where
+module _ {E : Type 0} (why : E → Cause ContentError) (e : E) (c d i j : Reading) (after : List ℕ) (f : HasHeader any c after)
+    (g : Hands c.mode f.form f.len f.owed after i) (b : c.stream.faults ≤ i.stream.faults) (s : j.stream.faults ≡ d.stream.faults) where
   pub refused_inside : walking.RefusesValues why i e j → ((why e ≡ of_source) × Grew c.stream.faults d.stream.faults) ⊎ (NoValue c × IsOfContent (why e))
   refused_inside (walking.RefusesValues.failed x a) = absurd (open_not_failed i.state g.state x)
   refused_inside (walking.RefusesValues.source k x) = inl (k, grew_between _ _ _ _ b x s)
@@ -286,5 +350,9 @@ module _ {E : Type 0} (why : E → Cause ContentError) (e : E) (c d i j : Readin
 
   pub refused_end : (l : Reading) → IsDone l → Moves i l → RefusesEnd why l e j → (why e ≡ of_source) × Grew c.stream.faults d.stream.faults
   refused_end l q m (left_failed x a) = absurd (not_failed_done l q x)
-  refused_end l q m (source_failed k x) = (k, let y : i.stream.faults ≤ l.stream.faults = moves_faults i l m in let z : c.stream.faults ≤ l.stream.faults = omega arith in grew_between _ _ _ _ z x s)
+  refused_end l q m (source_failed k x) = (
+    k,
+    let y : i.stream.faults ≤ l.stream.faults = moves_faults i l m in
+        let z : c.stream.faults ≤ l.stream.faults = omega arith in grew_between _ _ _ _ z x s,
+  )
   refused_end l q m (left_open x a) = absurd (x.none l.stream.rest (done_here l i.kind (moved_keeps_kind i l m) q))

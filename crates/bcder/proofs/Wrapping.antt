@@ -22,7 +22,8 @@ module _ (t : Tag) (mode : Mode) (M : Meaning → Type 0) where
   -- and nothing else
   pub wrapped_taken : IsOne M → (e : Encoded) → M (Ok e) → AreOctets e.octets → (m : Meaning) → WrappedMeans t mode M m → OctetsMean t e.octets mode m
   wrapped_taken one e meant o m (inl p) = inl p
-  wrapped_taken one e meant o m (inr (v, (x, holds, eq))) = inr (v, (Ok e.octets, (refl, o), eq ∙ ap (λ y. string_meaning t mode (contents_of y)) (one.same x (Ok e) holds meant)))
+  wrapped_taken one e meant o m (inr (v, (x, holds, eq))) =
+      inr (v, (Ok e.octets, (refl, o), eq ∙ ap (λ y. string_meaning t mode (contents_of y)) (one.same x (Ok e) holds meant)))
 
   wrapped_inside_at : (x : Encoded) (m : Meaning) → M m → Ok x ≡ string_meaning t mode (contents_of m) → HasEncoding M
   wrapped_inside_at x (Ok e) holds eq = (e, holds)
@@ -32,12 +33,14 @@ module _ (t : Tag) (mode : Mode) (M : Meaning → Type 0) where
   wrapped_inside x (inl p) = cc
   wrapped_inside x (inr (v, (m, holds, eq))) = wrapped_inside_at x m holds eq
 
-  pub wrapped_size : (lacks : Type 0) (e : Encoded) → M (Ok e) → (r : Result ℕ EncodeError) → SizeOfValues (OctetsMean t e.octets mode) ⊥ r → SizeOfValues (WrappedMeans t mode M) lacks r
+  pub wrapped_size : (lacks : Type 0) (e : Encoded) → M (Ok e) → (r : Result ℕ EncodeError) → SizeOfValues (OctetsMean t e.octets mode) ⊥ r
+      → SizeOfValues (WrappedMeans t mode M) lacks r
   wrapped_size lacks e meant (Ok n) h = (h.0, wrapped_given e meant (Ok h.0) h.1, h.2)
   wrapped_size lacks e meant (Err d) h = record { meant = λ ne. wrapped_given e meant (Err d) (h.meant ne); lacking = λ is. absurd (h.lacking is) }
 
   -- octets that were gathered
-  pub gathered_as : IsOne M → (e : Encoded) → M (Ok e) → AreOctets e.octets → (w : List ℕ) → w ≡ e.octets → (x : Encoded) → WrappedMeans t mode M (Ok x) → OctetsMean t w mode (Ok x)
+  pub gathered_as : IsOne M → (e : Encoded) → M (Ok e) → AreOctets e.octets → (w : List ℕ) → w ≡ e.octets → (x : Encoded) → WrappedMeans t mode M (Ok x)
+      → OctetsMean t w mode (Ok x)
   gathered_as one e meant o w same x h = subst (λ u. OctetsMean t u mode (Ok x)) (sym same) (wrapped_taken one e meant o (Ok x) h)
 
 -- where memory lacks to keep what is meant, there is an encoding, or memory may lack for it
@@ -45,11 +48,13 @@ pub not_kept : {L : Type 0} (M : Meaning → Type 0) → MeansOctets encoded_oct
 not_kept M (inl (e, m, some)) = inr (e, m)
 not_kept M (inr l) = inl l
 
-pub or_gathered : {L : Type 0} (mode : Mode) (M : Meaning → Type 0) (n : ℕ) → is_cut mode n ≡ true → ((e : Encoded) → M (Ok e) → n ≡ length e.octets) → L ⊎ HasEncoding M → L ⊎ IsGathered mode M
+pub or_gathered : {L : Type 0} (mode : Mode) (M : Meaning → Type 0) (n : ℕ) → is_cut mode n ≡ true → ((e : Encoded) → M (Ok e) → n ≡ length e.octets)
+    → L ⊎ HasEncoding M → L ⊎ IsGathered mode M
 or_gathered mode M n is sized (inl l) = inl l
 or_gathered mode M n is sized (inr (e, m)) = inr (e, m, ap (is_cut mode) (sym (sized e m)) ∙ is)
 
 -- an error that `?` passes on
-pub inside_halts : (mode : Mode) (M : Meaning → Type 0) (lacks : Type 0) {e : EncodeError} (r : Result ℕ EncodeError) → IsErr r × IsErrAnd r (λ d. d ≡ e) → RefusesBy (WrappedMeans octet_string_tag mode M) lacks e → InsideSize mode M lacks r
+pub inside_halts : (mode : Mode) (M : Meaning → Type 0) (lacks : Type 0) {e : EncodeError} (r : Result ℕ EncodeError) → IsErr r × IsErrAnd r (λ d. d ≡ e)
+    → RefusesBy (WrappedMeans octet_string_tag mode M) lacks e → InsideSize mode M lacks r
 inside_halts mode M lacks (Ok n) is h = absurd is.1
 inside_halts mode M lacks (Err d) is h = subst (RefusesBy (WrappedMeans octet_string_tag mode M) lacks) (sym is.1) h

@@ -1,5 +1,6 @@
 -- What is written of an octet string is one.
-use Rattle.std.proofs.Common.{◌≡◌, ◌≢◌, ℕ, zero, suc, ◌+◌, ◌-◌, ◌*◌, ◌/◌, ◌%◌, ◌^◌, ◌<◌, ◌≤◌, Bool, true, false, List, [], ◌∷◌, ◌++◌, length, take, drop, Ok, Err, refl, sym, ap, ◌∙◌, subst, append-nil, inl, inr, arith, ltb-true, ◌⊎◌}
+use Rattle.std.proofs.Common.{◌≡◌, ◌≢◌, ℕ, zero, suc, ◌+◌, ◌-◌, ◌*◌, ◌/◌, ◌%◌, ◌^◌, ◌<◌, ◌≤◌, Bool, true, false, List, [], ◌∷◌, ◌++◌, length}
+use Rattle.std.proofs.Common.{take, drop, Ok, Err, refl, sym, ap, ◌∙◌, subst, append-nil, inl, inr, arith, ltb-true, ◌⊎◌}
 use Rattle.std.specs.Prelude.{nat_lt, if◌then◌else◌}
 use Rattle.std.specs.List.{concat}
 use Rattle.std.proofs.lemmas.Bool.{lt-ltb, cases_lt}
@@ -17,7 +18,8 @@ use Rattle.bcder.specs.calls.Encoders.{HasEncoding}
 use Rattle.bcder.specs.calls.Gathered.{suits, KeptMeans}
 use Rattle.bcder.specs.calls.StringOctets.{StringOctets, whole, cut, octets_of}
 use Rattle.bcder.specs.x690.OctetString.{segments_of, flat, MayBeWhole, FollowFull, AreSegments, AreSegmentsIn, IsOctetString, AreSegmented}
-use Rattle.bcder.specs.calls.Meaning.{Encoded, Meaning, IsLawful, ValueMeans, primitive_meaning, constructed_meaning, primitive_encoded, constructed_encoded, fits_enclosed, enclosed_refusal}
+use Rattle.bcder.specs.calls.Meaning.{Encoded, Meaning, IsLawful, ValueMeans, primitive_meaning, constructed_meaning}
+use Rattle.bcder.specs.calls.Meaning.{primitive_encoded, constructed_encoded, fits_enclosed, enclosed_refusal}
 use Rattle.bcder.specs.calls.StringMeaning.{full_segments, segmented, segments_in_cer, is_cut, string_meaning, OctetsMean, StringMeans, WrappedMeans}
 use Rattle.bcder.specs.calls.WrittenStrings.{IsWrittenString, WritesString, WritesShort, contents_count, WritesAlike, IsMadeUp}
 use Rattle.bcder.specs.calls.Valued.{tag_of}
@@ -40,12 +42,15 @@ segments_hold (suc n) w = ap (λ l. take 1000 w ++ l) (segments_hold n (drop 100
 -- and behind one of 1000 octets they have the form that CER asks for
 segments_follow : (n : ℕ) (w : List ℕ) → 1000 * n < length w → length w ≤ 1000 * n + 1000 → FollowFull (segmented n w).values
 segments_follow zero w some few = (refl, (omega arith, omega arith))
-segments_follow (suc zero) w some few = ((refl, length-take-le 1000 w (omega arith)), segments_follow zero (drop 1000 w) (omega (arith, length-drop 1000 w)) (omega (arith, length-drop 1000 w)))
-segments_follow (suc (suc n)) w some few = ((refl, length-take-le 1000 w (omega arith)), segments_follow (suc n) (drop 1000 w) (omega (arith, length-drop 1000 w)) (omega (arith, length-drop 1000 w)))
+segments_follow (suc zero) w some few =
+    ((refl, length-take-le 1000 w (omega arith)), segments_follow zero (drop 1000 w) (omega (arith, length-drop 1000 w)) (omega (arith, length-drop 1000 w)))
+segments_follow (suc (suc n)) w some few =
+    ((refl, length-take-le 1000 w (omega arith)), segments_follow (suc n) (drop 1000 w) (omega (arith, length-drop 1000 w)) (omega (arith, length-drop 1000 w)))
 
 pub segments_shape : (n : ℕ) (w : List ℕ) → 1 ≤ n → 1000 * n < length w → length w ≤ 1000 * n + 1000 → AreSegmentsIn Cer (segmented n w).values
 segments_shape zero w more some few = absurd (omega arith)
-segments_shape (suc n) w more some few = ((refl, length-take-le 1000 w (omega arith)), segments_follow n (drop 1000 w) (omega (arith, length-drop 1000 w)) (omega (arith, length-drop 1000 w)))
+segments_shape (suc n) w more some few =
+    ((refl, length-take-le 1000 w (omega arith)), segments_follow n (drop 1000 w) (omega (arith, length-drop 1000 w)) (omega (arith, length-drop 1000 w)))
 
 -- ---- what has an encoding
 
@@ -120,9 +125,17 @@ may_be_whole Cer w is = elim (cases_lt 1000 (length w)) [
 
 module _ (t : Tag) (mode : Mode) (w : List ℕ) (e : Encoded) (encodes : AreEncodings mode e.values e.octets) where
   written_value : (value : Tree) → e.values ≡ value ∷ₜ no_trees → tag_of value ≡ t → IsOctetString mode value → flat value ≡ w → IsWrittenString t mode w e
-  written_value value alone tag shape octets = record { value = value; alone = alone; encodes = one_of mode value e.octets (subst (λ vs. AreEncodings mode vs e.octets) alone encodes); tag = tag; shape = shape; octets = octets }
+  written_value value alone tag shape octets = record {
+    value = value;
+    alone = alone;
+    encodes = one_of mode value e.octets (subst (λ vs. AreEncodings mode vs e.octets) alone encodes);
+    tag = tag;
+    shape = shape;
+    octets = octets;
+  }
 
-  written_whole : (b : Bool) → is_cut mode (length w) ≡ false → Ok e ≡ (if b then Ok (primitive_encoded t w) else Err LengthTooLarge) → IsWrittenString t mode w e
+  written_whole : (b : Bool) → is_cut mode (length w) ≡ false → Ok e ≡ (if b then Ok (primitive_encoded t w) else Err LengthTooLarge)
+      → IsWrittenString t mode w e
   written_whole false is eq = cc
   written_whole true is eq =
       let same : e ≡ primitive_encoded t w = cc in
@@ -134,7 +147,8 @@ cut_at t w e false more encodes eq = cc
 cut_at t w e true more encodes eq =
     let inside = segments_in_cer w in
     let same : e ≡ constructed_encoded Cer t inside = cc in
-    written_value t Cer w e encodes (constructed t inside.values) (ap (λ (x : Encoded). x.values) same) refl (segments_shape (full_segments (length w)) w (omega arith) (omega arith) (omega arith)) (segments_hold (full_segments (length w)) w)
+    written_value t Cer w e encodes (constructed t inside.values) (ap (λ (x : Encoded). x.values) same) refl
+    (segments_shape (full_segments (length w)) w (omega arith) (omega arith) (omega arith)) (segments_hold (full_segments (length w)) w)
 
 string_at : (t : Tag) (mode : Mode) (w : List ℕ) (e : Encoded) (b : Bool) → is_cut mode (length w) ≡ b → AreEncodings mode e.values e.octets
     → Ok e ≡ (if b then constructed_meaning t Cer (Ok (segments_in_cer w)) else primitive_meaning t (Ok w)) → IsWrittenString t mode w e
@@ -143,7 +157,8 @@ string_at t Cer w e true is encodes eq = cut_at t w e (fits_enclosed Cer t (leng
 string_at t Ber w e true is encodes eq = cc
 string_at t Der w e true is encodes eq = cc
 
-means_string : (t : Tag) (mode : Mode) (w : List ℕ) (e : Encoded) → AreEncodings mode e.values e.octets → OctetsMean t w mode (Ok e) → IsWrittenString t mode w e
+means_string : (t : Tag) (mode : Mode) (w : List ℕ) (e : Encoded) → AreEncodings mode e.values e.octets → OctetsMean t w mode (Ok e)
+    → IsWrittenString t mode w e
 means_string t mode w e encodes (inl p) = cc
 means_string t mode w e encodes (inr (v, (c, (is, o), eq))) = string_at t mode w e (is_cut mode (length w)) refl encodes (eq ∙ ap (string_meaning t mode) is)
 
@@ -167,7 +182,8 @@ segments_in_ber Cer no_trees h = absurd h
 segments_in_ber Cer (primitive t w ∷ₜ ts) h = (h.0.0, pieces_segments ts h.1)
 segments_in_ber Cer (constructed t us ∷ₜ ts) h = absurd h.0
 
-cut_written : (t : Tag) (kept : Kept) (ps : List (List ℕ)) → AreSegmented kept.mode kept.octets ps → WritesString t Ber (concat ps) (ValueMeans t (constructed_meaning t Ber) (KeptMeans kept Ber))
+cut_written : (t : Tag) (kept : Kept) (ps : List (List ℕ)) → AreSegmented kept.mode kept.octets ps
+    → WritesString t Ber (concat ps) (ValueMeans t (constructed_meaning t Ber) (KeptMeans kept Ber))
 cut_written t kept ps made e m =
     let inside = inside_of t Ber (KeptMeans kept Ber) e m in
     let same = one_list kept.mode inside.values.values made.values kept.octets inside.meant.1 made.encode in
@@ -197,8 +213,10 @@ written_alike t mode r s ne same m h =
 
 -- ---- what is wrapped
 
-pub wrapped_written : (t : Tag) (mode inner : Mode) (M : Meaning → Type 0) → IsLawful inner M → (x : Encoded) → M (Ok x) → WritesString t mode x.octets (WrappedMeans t mode M)
-wrapped_written t mode inner M lawful x holds e m = octets_written t mode x.octets e (wrapped_taken t mode M lawful.one x holds (lawful_octets inner lawful x holds) (Ok e) m)
+pub wrapped_written : (t : Tag) (mode inner : Mode) (M : Meaning → Type 0) → IsLawful inner M → (x : Encoded) → M (Ok x)
+    → WritesString t mode x.octets (WrappedMeans t mode M)
+wrapped_written t mode inner M lawful x holds e m =
+    octets_written t mode x.octets e (wrapped_taken t mode M lawful.one x holds (lawful_octets inner lawful x holds) (Ok e) m)
 
 pub wrapped_meant : (t : Tag) (mode inner : Mode) (M : Meaning → Type 0) → IsLawful inner M → (x : Encoded) → M (Ok x)
     → WritesShort t (length x.octets) (WrappedMeans t mode M)

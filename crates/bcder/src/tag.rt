@@ -372,7 +372,7 @@ pub(crate) fn tag_of_leading(octet: u8) -> Tag
 }
 
 /// Returns the constructed bit of a leading octet, bit 6 (8.1.2.5).
-#[tactic(auto, using(crate::proofs::nat_tests), unfolding(crate::specs::steps::Reading::is_marked),)]
+#[tactic(auto, using(crate::proofs::nat_tests), unfolding(crate::specs::steps::Reading::is_marked))]
 #[inline(always)]
 pub(crate) fn mark_of_leading(octet: u8) -> bool
     ensures { result ≡ is_marked octet }

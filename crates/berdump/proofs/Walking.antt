@@ -1,5 +1,6 @@
 -- The steps of the loop over octets.
-use Rattle.std.proofs.Common.{◌≡◌, ◌≢◌, ℕ, ◌+◌, ◌-◌, ◌<◌, ◌≤◌, Bool, true, false, List, [], ◌∷◌, ◌++◌, Option, Some, None, length, take, drop, refl, sym, ap, subst, ◌∙◌, append_assoc, append-nil, arith, length-append, take-append-drop}
+use Rattle.std.proofs.Common.{◌≡◌, ◌≢◌, ℕ, ◌+◌, ◌-◌, ◌<◌, ◌≤◌, Bool, true, false, List, [], ◌∷◌, ◌++◌, Option, Some, None, length, take, drop}
+use Rattle.std.proofs.Common.{refl, sym, ap, subst, ◌∙◌, append_assoc, append-nil, arith, length-append, take-append-drop}
 use Rattle.std.proofs.lemmas.List.{length-take-le}
 use Rattle.std.proofs.KnownBytes.{Appends-nil, Appends-trans}
 use Rattle.std.specs.Borrow.{Bor}
@@ -32,7 +33,8 @@ pub one_line : (h : Heading) (w : List ℕ) → IsLine h w → AreLines (h ∷ [
 one_line h w l = (w, [], l, refl, sym (append-nil w))
 
 written_join : (hs gs : List Heading) (a b c : Option (List ℕ)) → Written hs a b → Written gs b c → Written (hs ++ gs) a c
-written_join hs gs a b c h k = record { text = h.text ++ k.text; lines = lines_join hs gs h.text k.text h.lines k.lines; appends = Appends-trans a b c h.text k.text h.appends k.appends }
+written_join hs gs a b c h k =
+    record { text = h.text ++ k.text; lines = lines_join hs gs h.text k.text h.lines k.lines; appends = Appends-trans a b c h.text k.text h.appends k.appends }
 
 stand_join : (mode : Mode) (octets : List ℕ) (hs gs : List Heading) → AllStand mode octets hs → AllStand mode octets gs → AllStand mode octets (hs ++ gs)
 stand_join mode octets [] gs h k = k
@@ -52,17 +54,20 @@ begins deep mode octets a = record {
   are = sym (append-nil octets);
 }
 
-pub ends : (deep : Bool) (mode : Mode) (octets w : List ℕ) (a b : Option (List ℕ)) (at : ℕ) → w ≡ [] → IsAt deep mode octets a b [] w at → Listed deep mode octets a b
+pub ends : (deep : Bool) (mode : Mode) (octets w : List ℕ) (a b : Option (List ℕ)) (at : ℕ) → w ≡ [] → IsAt deep mode octets a b [] w at
+    → Listed deep mode octets a b
 ends deep mode octets w a b at e s = record {
   headings = s.headings;
   listed = subst (λ hs. AreListed deep mode octets 0 0 hs) (append-nil s.headings) (s.goes [] (AreListed.none e refl));
   written = s.written;
 }
 
-pub in_part : (deep : Bool) (mode : Mode) (octets w : List ℕ) (a b : Option (List ℕ)) (es : List Open) (at : ℕ) → IsAt deep mode octets a b es w at → ListedInPart mode octets a b
+pub in_part : (deep : Bool) (mode : Mode) (octets w : List ℕ) (a b : Option (List ℕ)) (es : List Open) (at : ℕ) → IsAt deep mode octets a b es w at
+    → ListedInPart mode octets a b
 in_part deep mode octets w a b es at s = record { headings = s.headings; stand = s.stand; written = s.written }
 
-pub closes : (deep : Bool) (mode : Mode) (octets : List ℕ) (a b : Option (List ℕ)) (es fs : List Open) (w v p : List ℕ) (at n : ℕ) → IsAt deep mode octets a b es w at → Goes deep mode es w at fs v (at + n) → (Fits mode es w → Fits mode fs v) → length p ≡ n
+pub closes : (deep : Bool) (mode : Mode) (octets : List ℕ) (a b : Option (List ℕ)) (es fs : List Open) (w v p : List ℕ) (at n : ℕ)
+    → IsAt deep mode octets a b es w at → Goes deep mode es w at fs v (at + n) → (Fits mode es w → Fits mode fs v) → length p ≡ n
     → w ++ behind_all es ≡ p ++ (v ++ behind_all fs) → IsAt deep mode octets a b fs v (at + n)
 closes deep mode octets a b es fs w v p at n s g m l e = record {
   headings = s.headings;
@@ -84,7 +89,8 @@ pub record Front (mode : Mode) (t : Tag) (form : Bool) (len : Option ℕ) (w r :
 header_length : (w h r : List ℕ) → w ≡ h ++ r → length w - length r ≡ length h
 header_length w h r e = omega (arith, ap length e, length-append h r)
 
-module _ (deep : Bool) (mode : Mode) (octets : List ℕ) (a b c : Option (List ℕ)) (es : List Open) (w r : List ℕ) (at : ℕ) (t : Tag) (form : Bool) (len : Option ℕ) (s : IsAt deep mode octets a b es w at) (f : Front mode t form len w r) (open_here : GoesOn mode es w) (some : es ≡ [] → w ≢ []) where
+module _ (deep : Bool) (mode : Mode) (octets : List ℕ) (a b c : Option (List ℕ)) (es : List Open) (w r : List ℕ) (at : ℕ) (t : Tag) (form : Bool)
+    (len : Option ℕ) (s : IsAt deep mode octets a b es w at) (f : Front mode t form len w r) (open_here : GoesOn mode es w) (some : es ≡ [] → w ≢ []) where
   abbrev the_heading : Heading
   the_heading = heading t form (length es) at (length w - length r) len
 
@@ -99,7 +105,9 @@ module _ (deep : Bool) (mode : Mode) (octets : List ℕ) (a b c : Option (List �
     size = sym (header_length w f.header r f.are);
   }
 
-  meets : (fs : List Open) (v p : List ℕ) (d : ℕ) → Written (the_heading ∷ []) b c → ((hs : List Heading) → Completes deep mode fs v d hs → Completes deep mode es w at (the_heading ∷ hs)) → (Fits mode es w → Fits mode fs v) → d ≡ at + length p
+  meets : (fs : List Open) (v p : List ℕ) (d : ℕ) → Written (the_heading ∷ []) b c
+      → ((hs : List Heading) → Completes deep mode fs v d hs → Completes deep mode es w at (the_heading ∷ hs))
+      → (Fits mode es w → Fits mode fs v) → d ≡ at + length p
       → w ++ behind_all es ≡ p ++ (v ++ behind_all fs) → IsAt deep mode octets a c fs v d
   meets fs v p d k g q l e = record {
     headings = s.headings ++ (the_heading ∷ []);
@@ -112,7 +120,8 @@ module _ (deep : Bool) (mode : Mode) (octets : List ℕ) (a b c : Option (List �
     are = s.are ∙ ap (λ z. s.passed ++ z) e ∙ sym (append_assoc s.passed p (v ++ behind_all fs));
   }
 
-  pub meets_primitive : (n : ℕ) → len ≡ Some n → form ≡ false → n ≤ length r → (deep ≡ true → HoldsNone mode t (take n r)) → Written (the_heading ∷ []) b c → IsAt deep mode octets a c es (drop n r) (at + (length w - length r) + n)
+  pub meets_primitive : (n : ℕ) → len ≡ Some n → form ≡ false → n ≤ length r → (deep ≡ true → HoldsNone mode t (take n r)) → Written (the_heading ∷ []) b c
+      → IsAt deep mode octets a c es (drop n r) (at + (length w - length r) + n)
   meets_primitive n is_len is_form fits none k =
       let contents = take n r in
       let size : length contents ≡ n = length-take-le n r fits in
@@ -120,15 +129,19 @@ module _ (deep : Bool) (mode : Mode) (octets : List ℕ) (a b c : Option (List �
       let whole : w ≡ (f.header ++ contents) ++ drop n r = f.are ∙ ap (λ z. f.header ++ z) split ∙ sym (append_assoc f.header contents (drop n r)) in
       let hl = header_length w f.header r f.are in
       let same : length_of len ≡ length_of (Some (length contents)) = ap length_of is_len ∙ ap (λ z. length_of (Some z)) (sym size) in
-      let listed : IsListed deep mode (f.header ++ contents) at (length es) (the_heading ∷ []) = IsListed.primitive t f.header contents (subst (λ g. IsHeader mode t g (length_of (Some (length contents))) f.header) is_form (subst (λ l. IsHeader mode t form l f.header) same f.is_header)) none refl (rw (is_form, is_len, hl, size) refl) in
+      let listed : IsListed deep mode (f.header ++ contents) at (length es) (the_heading ∷ []) = IsListed.primitive t f.header contents
+      (subst (λ g. IsHeader mode t g (length_of (Some (length contents))) f.header) is_form (subst (λ l. IsHeader mode t form l f.header) same f.is_header))
+      none refl (rw (is_form, is_len, hl, size) refl) in
       meets es (drop n r) (f.header ++ contents) (at + (length w - length r) + n) k
-      (λ hs m. subst (λ z. Completes deep mode es z at (the_heading ∷ hs)) (sym whole) (value_first deep mode es (f.header ++ contents) (drop n r) at (the_heading ∷ []) hs listed
+      (λ hs m. subst (λ z. Completes deep mode es z at (the_heading ∷ hs)) (sym whole)
+      (value_first deep mode es (f.header ++ contents) (drop n r) at (the_heading ∷ []) hs listed
       (subst (λ d. Completes deep mode es (drop n r) d hs) (omega (arith, length-append f.header contents, hl, size)) m)))
       (λ h. fits_primitive mode es w r f.header t form len f.is_header f.are open_here some h n is_len is_form)
       (omega (arith, length-append f.header contents, hl, size))
       (ap (λ z. z ++ behind_all es) whole ∙ append_assoc (f.header ++ contents) (drop n r) (behind_all es))
 
-  pub meets_definite : (behind : Bor (List ℕ)) (v : List ℕ) (n : ℕ) → len ≡ Some n → form ≡ true → n ≤ length r → behind.now ≡ drop n r → v ≡ take n r → Written (the_heading ∷ []) b c
+  pub meets_definite : (behind : Bor (List ℕ)) (v : List ℕ) (n : ℕ) → len ≡ Some n → form ≡ true → n ≤ length r → behind.now ≡ drop n r → v ≡ take n r
+      → Written (the_heading ∷ []) b c
       → IsAt deep mode octets a c (level.Definite behind ∷ es) v (at + (length w - length r))
   meets_definite behind v n is_len is_form fits is_behind is_v k =
       let size : length v ≡ n = ap length is_v ∙ length-take-le n r fits in
@@ -136,17 +149,23 @@ module _ (deep : Bool) (mode : Mode) (octets : List ℕ) (a b c : Option (List �
       let whole : w ≡ (f.header ++ v) ++ behind.now = f.are ∙ ap (λ z. f.header ++ z) split ∙ sym (append_assoc f.header v behind.now) in
       let hl = header_length w f.header r f.are in
       let same : length_of len ≡ length_of (Some (length v)) = ap length_of is_len ∙ ap (λ z. length_of (Some z)) (sym size) in
-      let header : IsHeader mode t true (length_of (Some (length v))) f.header = subst (λ g. IsHeader mode t g (length_of (Some (length v))) f.header) is_form (subst (λ l. IsHeader mode t form l f.header) same f.is_header) in
+      let header : IsHeader mode t true (length_of (Some (length v))) f.header =
+      subst (λ g. IsHeader mode t g (length_of (Some (length v))) f.header) is_form (subst (λ l. IsHeader mode t form l f.header) same f.is_header) in
       meets (level.Definite behind ∷ es) v f.header (at + (length w - length r)) k
       (λ hs m. let (inside, more, listed, completes, all) = m in
-      subst (λ gs. Completes deep mode es w at (the_heading ∷ gs)) (sym all) (subst (λ z. Completes deep mode es z at ((the_heading ∷ inside) ++ more)) (sym whole) (value_first deep mode es (f.header ++ v) behind.now at (the_heading ∷ inside) more
-      (IsListed.definite t f.header v inside header (subst (λ d. AreListed deep mode v d (length es + 1) inside) (ap (λ d. at + d) hl) listed) refl (rw (is_form, is_len, hl, size) refl))
+      subst (λ gs. Completes deep mode es w at (the_heading ∷ gs)) (sym all) (subst (λ z. Completes deep mode es z at ((the_heading ∷ inside) ++ more))
+      (sym whole) (value_first deep mode es (f.header ++ v) behind.now at (the_heading ∷ inside) more
+      (IsListed.definite t f.header v inside header (subst (λ d. AreListed deep mode v d (length es + 1) inside) (ap (λ d. at + d) hl) listed) refl
+      (rw (is_form, is_len, hl, size) refl))
       (subst (λ d. Completes deep mode es behind.now d more) (omega (arith, length-append f.header v, hl)) completes))))
-      (λ h. subst (Fits mode (level.Definite behind ∷ es)) (sym is_v) (fits_definite mode es w r f.header t form len f.is_header f.are open_here some h behind n is_len is_form is_behind))
+      (λ h. subst (Fits mode (level.Definite behind ∷ es)) (sym is_v)
+      (fits_definite mode es w r f.header t form len f.is_header f.are open_here some h behind n is_len is_form is_behind))
       (omega (arith, hl))
-      (ap (λ z. z ++ behind_all es) f.are ∙ append_assoc f.header r (behind_all es) ∙ ap (λ z. f.header ++ (z ++ behind_all es)) split ∙ ap (λ z. f.header ++ z) (append_assoc v behind.now (behind_all es)))
+      (ap (λ z. z ++ behind_all es) f.are ∙ append_assoc f.header r (behind_all es) ∙ ap (λ z. f.header ++ (z ++ behind_all es)) split
+      ∙ ap (λ z. f.header ++ z) (append_assoc v behind.now (behind_all es)))
 
-  pub meets_opened : (behind : Bor (List ℕ)) (v : List ℕ) (n : ℕ) → deep ≡ true → len ≡ Some n → form ≡ false → n ≤ length r → behind.now ≡ drop n r → Holds mode t (take n r) v → Written (the_heading ∷ []) b c
+  pub meets_opened : (behind : Bor (List ℕ)) (v : List ℕ) (n : ℕ) → deep ≡ true → len ≡ Some n → form ≡ false → n ≤ length r → behind.now ≡ drop n r
+      → Holds mode t (take n r) v → Written (the_heading ∷ []) b c
       → IsAt deep mode octets a c (level.Definite behind ∷ es) v (at + (length w - length r) + (n - length v))
   meets_opened behind v n is_deep is_len is_form fits is_behind held k =
       let front = held.front in
@@ -156,16 +175,24 @@ module _ (deep : Bool) (mode : Mode) (octets : List ℕ) (a b c : Option (List �
       let whole : w ≡ (f.header ++ (front ++ v)) ++ behind.now = f.are ∙ ap (λ z. f.header ++ z) split ∙ sym (append_assoc f.header (front ++ v) behind.now) in
       let hl = header_length w f.header r f.are in
       let same : length_of len ≡ length_of (Some (length (front ++ v))) = ap length_of is_len ∙ ap (λ z. length_of (Some z)) (sym size) in
-      let header : IsHeader mode t false (length_of (Some (length (front ++ v)))) f.header = subst (λ g. IsHeader mode t g (length_of (Some (length (front ++ v)))) f.header) is_form (subst (λ l. IsHeader mode t form l f.header) same f.is_header) in
+      let header : IsHeader mode t false (length_of (Some (length (front ++ v)))) f.header = subst
+      (λ g. IsHeader mode t g (length_of (Some (length (front ++ v)))) f.header) is_form (subst (λ l. IsHeader mode t form l f.header) same f.is_header) in
       let place : at + (length w - length r) + (n - length v) ≡ at + length f.header + length front = omega (arith, hl, size, length-append front v) in
       meets (level.Definite behind ∷ es) v (f.header ++ front) (at + (length w - length r) + (n - length v)) k
       (λ hs m. let (inside, more, listed, completes, all) = m in
-      subst (λ gs. Completes deep mode es w at (the_heading ∷ gs)) (sym all) (subst (λ z. Completes deep mode es z at ((the_heading ∷ inside) ++ more)) (sym whole) (value_first deep mode es (f.header ++ (front ++ v)) behind.now at (the_heading ∷ inside) more
-      (IsListed.opened t f.header front v inside is_deep header held.is_front held.some (subst (λ d. AreListed deep mode v d (length es + 1) inside) place listed) refl (rw (is_form, is_len, hl, size) refl))
+      subst (λ gs. Completes deep mode es w at (the_heading ∷ gs)) (sym all) (subst (λ z. Completes deep mode es z at ((the_heading ∷ inside) ++ more))
+      (sym whole) (value_first deep mode es (f.header ++ (front ++ v)) behind.now at (the_heading ∷ inside) more
+      (IsListed.opened t f.header front v inside is_deep header held.is_front held.some
+      (subst (λ d. AreListed deep mode v d (length es + 1) inside) place listed) refl (rw (is_form, is_len, hl, size) refl))
       (subst (λ d. Completes deep mode es behind.now d more) (omega (arith, place, length-append f.header (front ++ v), length-append front v)) completes))))
-      (λ h. (held.list, subst (Fits mode es) (sym is_behind) (fits_primitive mode es w r f.header t form len f.is_header f.are open_here some h n is_len is_form)))
+      (λ h. (
+        held.list,
+        subst (Fits mode es) (sym is_behind)
+            (fits_primitive mode es w r f.header t form len f.is_header f.are open_here some h n is_len is_form),
+      ))
       (omega (arith, place, length-append f.header front))
-      (ap (λ z. z ++ behind_all es) whole ∙ append_assoc (f.header ++ (front ++ v)) behind.now (behind_all es) ∙ ap (λ z. z ++ (behind.now ++ behind_all es)) (sym (append_assoc f.header front v)) ∙ append_assoc (f.header ++ front) v (behind.now ++ behind_all es))
+      (ap (λ z. z ++ behind_all es) whole ∙ append_assoc (f.header ++ (front ++ v)) behind.now (behind_all es) ∙ ap (λ z. z ++ (behind.now ++ behind_all es))
+      (sym (append_assoc f.header front v)) ∙ append_assoc (f.header ++ front) v (behind.now ++ behind_all es))
 
   always_constructed : (g : Bool) → IsHeader mode t g (length_of None) f.header → g ≡ true
   always_constructed true h = refl
@@ -178,27 +205,37 @@ module _ (deep : Bool) (mode : Mode) (octets : List ℕ) (a b c : Option (List �
       let is_form = always_constructed form header in
       meets (level.Indefinite ∷ es) r f.header (at + (length w - length r)) k
       (λ hs m. let (contents, end, others, inside, more, listed, is_end, completes, is, all) = m in
-      let whole : w ≡ (f.header ++ (contents ++ end)) ++ others = f.are ∙ ap (λ z. f.header ++ z) (is ∙ sym (append_assoc contents end others)) ∙ sym (append_assoc f.header (contents ++ end) others) in
-      subst (λ gs. Completes deep mode es w at (the_heading ∷ gs)) (sym all) (subst (λ z. Completes deep mode es z at ((the_heading ∷ inside) ++ more)) (sym whole) (value_first deep mode es (f.header ++ (contents ++ end)) others at (the_heading ∷ inside) more
-      (IsListed.indefinite t f.header contents end inside (subst (λ g. IsHeader mode t g (length_of None) f.header) is_form header) (subst (λ d. AreListed deep mode contents d (length es + 1) inside) (ap (λ d. at + d) hl) listed) is_end refl (rw (is_form, is_len, hl) refl))
+      let whole : w ≡ (f.header ++ (contents ++ end)) ++ others =
+      f.are ∙ ap (λ z. f.header ++ z) (is ∙ sym (append_assoc contents end others)) ∙ sym (append_assoc f.header (contents ++ end) others) in
+      subst (λ gs. Completes deep mode es w at (the_heading ∷ gs)) (sym all) (subst (λ z. Completes deep mode es z at ((the_heading ∷ inside) ++ more))
+      (sym whole) (value_first deep mode es (f.header ++ (contents ++ end)) others at (the_heading ∷ inside) more
+      (IsListed.indefinite t f.header contents end inside (subst (λ g. IsHeader mode t g (length_of None) f.header) is_form header)
+      (subst (λ d. AreListed deep mode contents d (length es + 1) inside) (ap (λ d. at + d) hl) listed) is_end refl (rw (is_form, is_len, hl) refl))
       (subst (λ d. Completes deep mode es others d more) (omega (arith, length-append f.header (contents ++ end), length-append contents end, hl)) completes))))
       (λ h. fits_indefinite mode es w r f.header t form len f.is_header f.are open_here some h is_len)
       (omega (arith, hl))
       (ap (λ z. z ++ behind_all es) f.are ∙ append_assoc f.header r (behind_all es))
 
   pub no_list_at_contents : (n : ℕ) → len ≡ Some n → length r < n → IsList mode octets → ⊥
-  no_list_at_contents n is_len short h = let fits = contents_are_here mode es w r f.header t form len f.is_header f.are open_here some (s.fits h) n is_len in absurd (omega (arith, fits, short))
+  no_list_at_contents n is_len short h =
+      let fits = contents_are_here mode es w r f.header t form len f.is_header f.are open_here some (s.fits h) n is_len in
+      absurd (omega (arith, fits, short))
 
-pub no_list_at_header : (deep : Bool) (mode : Mode) (octets w : List ℕ) (a b : Option (List ℕ)) (es : List Open) (at : ℕ) → IsAt deep mode octets a b es w at → GoesOn mode es w → (es ≡ [] → w ≢ [])
+pub no_list_at_header : (deep : Bool) (mode : Mode) (octets w : List ℕ) (a b : Option (List ℕ)) (es : List Open) (at : ℕ) → IsAt deep mode octets a b es w at
+    → GoesOn mode es w → (es ≡ [] → w ≢ [])
     → ((t : Tag) (form : Bool) (n : Option ℕ) (h x : List ℕ) → IsHeader mode t form (length_of n) h → w ≡ h ++ x → ⊥) → IsList mode octets → ⊥
 no_list_at_header deep mode octets w a b es at s g n none h = no_list_without_header mode es w g n none (s.fits h)
 
-pub within : (deep : Bool) (mode : Mode) (octets w : List ℕ) (a b : Option (List ℕ)) (es : List Open) (at : ℕ) → IsAt deep mode octets a b es w at → at + length w + length (behind_all es) ≡ length octets
-within deep mode octets w a b es at s = let o = s.offset in omega (arith, ap length s.are, length-append s.passed (w ++ behind_all es), length-append w (behind_all es), o)
+pub within : (deep : Bool) (mode : Mode) (octets w : List ℕ) (a b : Option (List ℕ)) (es : List Open) (at : ℕ) → IsAt deep mode octets a b es w at
+    → at + length w + length (behind_all es) ≡ length octets
+within deep mode octets w a b es at s =
+    let o = s.offset in
+    omega (arith, ap length s.are, length-append s.passed (w ++ behind_all es), length-append w (behind_all es), o)
 
 -- ---- the text of a line
 
-pub line_text : (old new text note end : List ℕ) → IsInOneLine note → old ≡ [] → new ≡ old ++ (text ++ (note ++ end)) → (x : List ℕ) × IsInOneLine x × (new ≡ (text ++ x) ++ end)
+pub line_text : (old new text note end : List ℕ) → IsInOneLine note → old ≡ [] → new ≡ old ++ (text ++ (note ++ end))
+    → (x : List ℕ) × IsInOneLine x × (new ≡ (text ++ x) ++ end)
 line_text old new text note end o n e = (note, o, e ∙ ap (λ z. z ++ (text ++ (note ++ end))) n ∙ sym (append_assoc text note end))
 
 -- ---- lines that weren't written
@@ -206,7 +243,8 @@ line_text old new text note end o n e = (note, o, e ∙ ap (λ z. z ++ (text ++ 
 pub written_line : (h : Heading) (w v : List ℕ) (a b : Option (List ℕ)) → IsLine h w → v ≡ w → Appends a b v → Written (h ∷ []) a b
 written_line h w v a b l e k = record { text = w; lines = one_line h w l; appends = subst (Appends a b) e k }
 
-pub unwritten_line : (h : Heading) (w v : List ℕ) (a b : Option (List ℕ)) → IsLine h w → v ≡ w → AppendsShorter a b v → (text : List ℕ) × AreLines (h ∷ []) text × AppendsShorter a b text
+pub unwritten_line : (h : Heading) (w v : List ℕ) (a b : Option (List ℕ)) → IsLine h w → v ≡ w → AppendsShorter a b v
+    → (text : List ℕ) × AreLines (h ∷ []) text × AppendsShorter a b text
 unwritten_line h w v a b l e k = (w, one_line h w l, subst (AppendsShorter a b) e k)
 
 keeps_nil : (b c : Option (List ℕ)) → Keeps b c → Appends b c []
@@ -215,11 +253,14 @@ keeps_nil (Some x) None k = absurd k
 keeps_nil (Some x) (Some y) k = k ∙ sym (append-nil x)
 
 pub written_kept : (hs : List Heading) (a b c : Option (List ℕ)) → Written hs a b → Keeps b c → Written hs a c
-written_kept hs a b c h k = record { text = h.text; lines = h.lines; appends = subst (Appends a c) (append-nil h.text) (Appends-trans a b c h.text [] h.appends (keeps_nil b c k)) }
+written_kept hs a b c h k =
+    record { text = h.text; lines = h.lines; appends = subst (Appends a c) (append-nil h.text) (Appends-trans a b c h.text [] h.appends (keeps_nil b c k)) }
 
-pub unlisted_by : (deep : Bool) (mode : Mode) (octets w : List ℕ) (a b c : Option (List ℕ)) (es : List Open) (at : ℕ) (h : Heading) (e : ListError) → IsAt deep mode octets a b es w at → Stands mode octets h → IsUnwritten h b c e → IsUnlisted deep mode octets a c e
+pub unlisted_by : (deep : Bool) (mode : Mode) (octets w : List ℕ) (a b c : Option (List ℕ)) (es : List Open) (at : ℕ) (h : Heading) (e : ListError)
+    → IsAt deep mode octets a b es w at → Stands mode octets h → IsUnwritten h b c e → IsUnlisted deep mode octets a c e
 unlisted_by deep mode octets w a b c es at h (Refused n why) s k u = absurd u
-unlisted_by deep mode octets w a b c es at h NoMemory s k u = record { headings = s.headings; stand = s.stand; written = written_kept s.headings a b c s.written u }
+unlisted_by deep mode octets w a b c es at h NoMemory s k u =
+    record { headings = s.headings; stand = s.stand; written = written_kept s.headings a b c s.written u }
 unlisted_by deep mode octets w a b c es at h (Target e) s k u =
     let (text, lines, shorter) = u in
     record {

@@ -28,7 +28,8 @@ abbrev pub place_text : Heading → List ℕ
 place_text h = right 5 h.offset ++ codes ":d=" ++ left 2 h.depth ++ codes " hl=" ++ decimal h.header
 
 abbrev pub name_text : Heading → List ℕ
-name_text h = codes "l=" ++ length_text h.len ++ codes " " ++ form_text h.constructed ++ codes ": " ++ spaces (min h.depth 64) ++ tag_text h.tag
+name_text h = codes "l=" ++ length_text h.len ++ codes " " ++ form_text h.constructed ++ codes ": "
+    ++ spaces (min h.depth 64) ++ tag_text h.tag
 
 -- `OFFSET:d=DEPTH hl=HEADER l=LENGTH FORM: TAG`
 abbrev pub heading_text : Heading → List ℕ

@@ -19,9 +19,11 @@ behind_all (Indefinite ∷ es) = behind_all es
 abbrev pub Completes : Bool → Mode → List Open → List ℕ → ℕ → List Heading → Type 0
 Completes deep mode [] w at hs = AreListed deep mode w at 0 hs
 Completes deep mode (Definite behind ∷ es) w at hs =
-    (inside more : List Heading) × AreListed deep mode w at (length es + 1) inside × Completes deep mode es behind.now (at + length w) more × (hs ≡ inside ++ more)
+    (inside more : List Heading) × AreListed deep mode w at (length es + 1) inside × Completes deep mode es behind.now (at + length w) more
+    × (hs ≡ inside ++ more)
 Completes deep mode (Indefinite ∷ es) w at hs =
-    (contents end others : List ℕ) × (inside more : List Heading) × AreListed deep mode contents at (length es + 1) inside × IsEndOfContents mode end × Completes deep mode es others (at + (length contents + length end)) more
+    (contents end others : List ℕ) × (inside more : List Heading) × AreListed deep mode contents at (length es + 1) inside
+    × IsEndOfContents mode end × Completes deep mode es others (at + (length contents + length end)) more
     × (w ≡ contents ++ (end ++ others)) × (hs ≡ inside ++ more)
 
 -- what completes the one state completes the other
@@ -32,7 +34,8 @@ Goes deep mode es w at fs v behind = (hs : List Heading) → Completes deep mode
 abbrev pub Fits : Mode → List Open → List ℕ → Type 0
 Fits mode [] w = IsList mode w
 Fits mode (Definite behind ∷ es) w = IsList mode w × Fits mode es behind.now
-Fits mode (Indefinite ∷ es) w = (ts : Trees) × (contents end others : List ℕ) × AreEncodings mode ts contents × IsEndOfContents mode end × (w ≡ contents ++ (end ++ others)) × Fits mode es others
+Fits mode (Indefinite ∷ es) w = (ts : Trees) × (contents end others : List ℕ) × AreEncodings mode ts contents × IsEndOfContents mode end
+    × (w ≡ contents ++ (end ++ others)) × Fits mode es others
 
 -- the innermost open value doesn't end here
 abbrev pub GoesOn : Mode → List Open → List ℕ → Type 0

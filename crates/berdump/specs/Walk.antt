@@ -12,7 +12,8 @@ use Rattle.berdump.specs.Opened.{behind_all, Completes, Fits}
 use Rattle.berdump.specs.Answers.{AllStand, Written, IsUnlisted}
 
 -- with these values open, and these octets at an offset up to the end of the innermost that has a length
-pub record IsAt (deep : Bool) (mode : Mode) (octets : List ℕ) (old new : Option (List ℕ)) (es : List Open) (w : List ℕ) (at : ℕ) : Type 0 where
+pub record IsAt (deep : Bool) (mode : Mode) (octets : List ℕ) (old new : Option (List ℕ)) (es : List Open) (w : List ℕ)
+    (at : ℕ) : Type 0 where
   pub headings : List Heading
   pub written : Written headings old new
   pub stand : AllStand mode octets headings
@@ -28,13 +29,18 @@ left es w = length w + length (behind_all es) + length es
 
 -- a step goes on from wherever a listing is
 abbrev pub Meets : Bool → Mode → List Open → List ℕ → ℕ → Option (List ℕ) → List Open → List ℕ → ℕ → Option (List ℕ) → Type 0
-Meets deep mode es w at b fs v behind c = (octets : List ℕ) (a : Option (List ℕ)) → IsAt deep mode octets a b es w at → IsAt deep mode octets a c fs v behind
+Meets deep mode es w at b fs v behind c = (octets : List ℕ) (a : Option (List ℕ)) → IsAt deep mode octets a b es w at
+    → IsAt deep mode octets a c fs v behind
 
 -- a step ends it with an error
 abbrev pub Stops : Bool → Mode → List Open → List ℕ → ℕ → Option (List ℕ) → Option (List ℕ) → ListError → Type 0
-Stops deep mode es w at b c e = (octets : List ℕ) (a : Option (List ℕ)) → IsAt deep mode octets a b es w at → IsUnlisted deep mode octets a c e
+Stops deep mode es w at b c e = (octets : List ℕ) (a : Option (List ℕ)) → IsAt deep mode octets a b es w at
+    → IsUnlisted deep mode octets a c e
 
 -- contents octets at an offset are passed, or gone into where they are those of a string that holds encodings
-pub data PassesContents (deep : Bool) (mode : Mode) (t : Tag) (contents behind : List ℕ) (at : ℕ) (es fs : List Open) (w : List ℕ) (end : ℕ) : Type 0 where
-  passed : (deep ≡ true → HoldsNone mode t contents) → fs ≡ es → w ≡ behind → end ≡ at + length contents → PassesContents deep mode t contents behind at es fs w end
-  opened : (b : Bor (List ℕ)) → deep ≡ true → Holds mode t contents w → b.now ≡ behind → fs ≡ Definite b ∷ es → end ≡ at + (length contents - length w) → PassesContents deep mode t contents behind at es fs w end
+pub data PassesContents (deep : Bool) (mode : Mode) (t : Tag) (contents behind : List ℕ) (at : ℕ) (es fs : List Open) (w : List ℕ)
+    (end : ℕ) : Type 0 where
+  passed : (deep ≡ true → HoldsNone mode t contents) → fs ≡ es → w ≡ behind → end ≡ at + length contents
+      → PassesContents deep mode t contents behind at es fs w end
+  opened : (b : Bor (List ℕ)) → deep ≡ true → Holds mode t contents w → b.now ≡ behind → fs ≡ Definite b ∷ es
+      → end ≡ at + (length contents - length w) → PassesContents deep mode t contents behind at es fs w end

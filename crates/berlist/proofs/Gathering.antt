@@ -1,5 +1,6 @@
 -- What is gathered, at each way that it can go.
-use Rattle.std.proofs.Common.{◌≡◌, ◌≢◌, ℕ, Bool, true, false, List, [], ◌∷◌, ◌++◌, Option, Some, None, MatchOption, refl, sym, ap, subst, ◌∙◌, append_assoc, append-nil, arith, inl, inr}
+use Rattle.std.proofs.Common.{◌≡◌, ◌≢◌, ℕ, Bool, true, false, List, [], ◌∷◌, ◌++◌, Option, Some, None, MatchOption, refl}
+use Rattle.std.proofs.Common.{sym, ap, subst, ◌∙◌, append_assoc, append-nil, arith, inl, inr}
 use Rattle.std.specs.Prelude.{◌⊎◌, Result, Ok, Err, IfOk, IfErr, IfSome, OnOk}
 use Rattle.std.specs.Borrow.{MutBor, GName}
 use Rattle.std.proofs.lemmas.Fn.{chained_keeps}
@@ -23,7 +24,8 @@ use Rattle.bcder.specs.calls.Stream.{Stream, Grew}
 use Rattle.bcder.specs.calls.Views.{of_constructed}
 use Rattle.bcder.specs.calls.Cause.{Cause, cause_of}
 use Rattle.bcder.specs.laws.Moved.{moved_keeps_kind}
-use Rattle.bcder.proofs.Lemmas.{open_has_not_ended, IsWithinOwed, values_with_one_more, trees_with_one_more, refused_on_the_way, no_values_at_the_end, no_trees_at_the_end, walks_nothing, walks_one_more}
+use Rattle.bcder.proofs.Lemmas.{open_has_not_ended, IsWithinOwed, values_with_one_more, trees_with_one_more, refused_on_the_way}
+use Rattle.bcder.proofs.Lemmas.{no_values_at_the_end, no_trees_at_the_end, walks_nothing, walks_one_more}
 use Rattle.berlist.specs.Lines.{line, lines}
 use Rattle.berlist.specs.Gather.{IsWant, ListsValue, ListsValues, RefusesNext, RefusesAll}
 use Rattle.berlist.specs.Answers.{IsNoList}
@@ -40,16 +42,21 @@ pub begins : (c : Reading) (mid : List ℕ) → mid ≡ [] → GoesOn c c mid
 begins c mid e = record { walks = walks_nothing c; more = λ h. (h, ap (λ w. w ++ lines (preorders h.trees 0)) (sym e)) }
 
 lines_first : (t : Tree) (ts us : Trees) (mid : List ℕ) → us ≡ t ∷ₜ ts → mid ++ lines (preorders us 0) ≡ (mid ++ lines (preorder t 0)) ++ lines (preorders ts 0)
-lines_first t ts us mid e = ap (λ z. mid ++ lines (preorders z 0)) e ∙ ap (λ l. mid ++ l) (lines-list t ts 0) ∙ sym (append_assoc mid (lines (preorder t 0)) (lines (preorders ts 0)))
+lines_first t ts us mid e =
+    ap (λ z. mid ++ lines (preorders z 0)) e ∙ ap (λ l. mid ++ l) (lines-list t ts 0) ∙ sym (append_assoc mid (lines (preorder t 0)) (lines (preorders ts 0)))
 
-pub goes_on : (i j k : Reading) (mid new : List ℕ) → IsWithinOwed j → GoesOn i j mid → Moves j k → k.mode ≡ j.mode → k.marked ≡ j.marked → ListsValue j mid new k → GoesOn i k new
+pub goes_on : (i j k : Reading) (mid new : List ℕ) → IsWithinOwed j → GoesOn i j mid → Moves j k → k.mode ≡ j.mode → k.marked ≡ j.marked
+    → ListsValue j mid new k → GoesOn i k new
 unfolding Moves
 goes_on i j k mid new w g m o s v = record {
   walks = walks_one_more i j k w g.walks m o s v.passes;
   more = λ h.
       let b = values_with_one_more j k w v.passes m o h in
-      let a = g.more b in
-      (a.0, a.1 ∙ lines_first v.passes.tree h.trees b.trees mid (trees_with_one_more j k w v.passes m o h) ∙ ap (λ z. z ++ lines (preorders h.trees 0)) (sym v.is));
+      let a = g.more b in (
+        a.0,
+        a.1 ∙ lines_first v.passes.tree h.trees b.trees mid (trees_with_one_more j k w v.passes m o h)
+            ∙ ap (λ z. z ++ lines (preorders h.trees 0)) (sym v.is),
+      );
 }
 
 end_lines : (ts : Trees) (mid : List ℕ) → ts ≡ no_trees → mid ++ lines (preorders ts 0) ≡ mid
@@ -82,8 +89,13 @@ module _ {F : Type 0} (step : Steps F ContentError) (text : F → List ℕ) (wan
 
   module _ (k : AddsLines) where
     lines_added : (hs : List Heading) (f g : F) → Called step f hs g → (text g ≡ text f ++ lines hs) × (text_name g ≡ text_name f)
-    lines_added hs f g c = chained_keeps (λ p h q. step p h.tag h.constructed h.depth (Ok tt) q) (λ done q. (text q ≡ text f ++ lines done) × (text_name q ≡ text_name f))
-        (λ done q h v e s. (k.adds q v h s ∙ ap (λ w. w ++ line h) e.0 ∙ append_assoc (text f) (lines done) (line h) ∙ ap (λ w. text f ++ w) (sym (lines-push done h)), k.same_text q v h (Ok tt) s ∙ e.1))
+    lines_added hs f g c =
+        chained_keeps (λ p h q. step p h.tag h.constructed h.depth (Ok tt) q) (λ done q. (text q ≡ text f ++ lines done) × (text_name q ≡ text_name f))
+        (λ done q h v e s. (
+          k.adds q v h s ∙ ap (λ w. w ++ line h) e.0 ∙ append_assoc (text f) (lines done) (line h)
+              ∙ ap (λ w. text f ++ w) (sym (lines-push done h)),
+          k.same_text q v h (Ok tt) s ∙ e.1,
+        ))
         hs f g (sym (append-nil (text f)), refl) c
 
     wants_kept : (hs : List Heading) (f g : F) → Called step f hs g → wants_name g ≡ wants_name f
@@ -93,15 +105,20 @@ module _ {F : Type 0} (step : Steps F ContentError) (text : F → List ℕ) (wan
     pub lists_next : {T X : Type 0} (c d : Reading) (f g : F) (r : Result (Option T) X) (new : List ℕ) → (text_name g ≡ text_name f → new ≡ text g)
         → IfOk r (λ o. IfSome o (λ _. SkipsValue step c f g d)) → IfOk r (λ o. IfSome o (λ _. ListsValue c (text f) new d))
     lists_next c d f g (Ok None) new same s = tt
-    lists_next c d f g (Ok (Some x)) new same s = let all = lines_added (preorder s.passes.tree 0) f g s.called in record { passes = s.passes; is = same all.1 ∙ all.0 }
+    lists_next c d f g (Ok (Some x)) new same s =
+        let all = lines_added (preorder s.passes.tree 0) f g s.called in
+        record { passes = s.passes; is = same all.1 ∙ all.0 }
     lists_next c d f g (Err e) new same s = tt
 
-    refuses_one : {S : Type 0} (c d : Reading) (f g : F) (e : DecodeError S) → (wants_name g ≡ wants_name f → wants g ≡ false) → RefusesSkip cause_of step c f e g d → RefusesNext c e d
+    refuses_one : {S : Type 0} (c d : Reading) (f g : F) (e : DecodeError S) → (wants_name g ≡ wants_name f → wants g ≡ false)
+        → RefusesSkip cause_of step c f e g d → RefusesNext c e d
     refuses_one c d f g e w (skipping.RefusesSkip.by_content hs x y z) = inr z
-    refuses_one c d f g e w (skipping.RefusesSkip.by_closure hs h q x y z u v) = (let b : true ≡ false = sym (k.tells q g h x z) ∙ w (k.same_wants q g h (Err x) z ∙ wants_kept hs f q y) in cc)
+    refuses_one c d f g e w (skipping.RefusesSkip.by_closure hs h q x y z u v) =
+        (let b : true ≡ false = sym (k.tells q g h x z) ∙ w (k.same_wants q g h (Err x) z ∙ wants_kept hs f q y) in cc)
     refuses_one c d f g e w (skipping.RefusesSkip.by_memory hs h x y z u v) = inl v
 
-    pub refuses_next : {T S : Type 0} (c d : Reading) (f g : F) (r : Result T (DecodeError S)) → (wants_name g ≡ wants_name f → wants g ≡ false) → IfErr r (λ e. RefusesSkip cause_of step c f e g d) → IfErr r (λ e. RefusesNext c e d)
+    pub refuses_next : {T S : Type 0} (c d : Reading) (f g : F) (r : Result T (DecodeError S)) → (wants_name g ≡ wants_name f → wants g ≡ false)
+        → IfErr r (λ e. RefusesSkip cause_of step c f e g d) → IfErr r (λ e. RefusesNext c e d)
     refuses_next c d f g (Ok x) w s = tt
     refuses_next c d f g (Err e) w s = refuses_one c d f g e w s
 
@@ -113,7 +130,8 @@ when_none P Q r e m = subst (λ r. MatchOption r P Q) e m
 -- ---- all octets
 
 -- values up to the end of unbounded content are all of its octets
-pub values_there : (i : Reading) (mode : Mode) (w : List ℕ) (ts : Trees) → i.kind ≡ UnboundedValues → i.mode ≡ mode → i.stream.rest ≡ w → AreEncodings mode ts w → HasValues i
+pub values_there : (i : Reading) (mode : Mode) (w : List ℕ) (ts : Trees) → i.kind ≡ UnboundedValues → i.mode ≡ mode → i.stream.rest ≡ w
+    → AreEncodings mode ts w → HasValues i
 values_there i mode w ts k m r a = record {
   trees = ts;
   all = w;
@@ -132,7 +150,8 @@ pub record ListsAll {T S : Type 0} (bytes : T → List ℕ) (i : Reading) (r : R
   pub refused : IfErr r (λ e. RefusesAll i e j)
 
 -- a slice never fails
-pub slices_faultless : (stream : SliceSource → Stream) → ((x : SliceSource) → (stream x).faults ≡ 0) → (c : Constructed SliceSource) → (of_constructed stream c).stream.faults ≡ 0
+pub slices_faultless : (stream : SliceSource → Stream) → ((x : SliceSource) → (stream x).faults ≡ 0) → (c : Constructed SliceSource)
+    → (of_constructed stream c).stream.faults ≡ 0
 unfolding of_constructed
 slices_faultless stream f c = f c.source.now.source
 
@@ -144,7 +163,9 @@ done_not_failed : (c : Reading) → IsDone c → c.state ≢ Failed
 done_not_failed c (inl h) f = cc
 done_not_failed c (inr h) f = let x = h.0 in cc
 
-module _ {C T S : Type 0} (view : C → Reading) (post : MutBor C → Result T (DecodeError S) → MutBor C → Type 0) (bytes : T → List ℕ) (faultless : (c : C) → (view c).stream.faults ≡ 0) (k : (p : MutBor C) (r : Result T (DecodeError S)) (q : MutBor C) → post p r q → ListsAll bytes (view p.now) r (view q.now)) (s : Stream) (mode : Mode) where
+module _ {C T S : Type 0} (view : C → Reading) (post : MutBor C → Result T (DecodeError S) → MutBor C → Type 0) (bytes : T → List ℕ) (faultless : (c : C)
+    → (view c).stream.faults ≡ 0) (k : (p : MutBor C) (r : Result T (DecodeError S)) (q : MutBor C) → post p r q → ListsAll bytes (view p.now) r (view q.now))
+    (s : Stream) (mode : Mode) where
   no_values : (e : DecodeError S) (i j : Reading) → (IsWant e → ⊥) → IsAllOf s mode i → j.stream.faults ≡ 0 → RefusesAll i e j → IsNoList mode s.rest
   no_values e i j n o f (inl m) ts a = n m
   no_values e i j n o f (inr (RefusesValues.failed x y)) ts a = let z = o.state in cc

@@ -26,14 +26,16 @@ abbrev second_word : List (List ℕ) → List ℕ
 second_word [] = []
 second_word (w ∷ ws) = first_word ws
 
-pub asks_text : (args : List (List ℕ)) (word text : List ℕ) (mode : Mode) (octets : List ℕ) → args ≡ word ∷ text ∷ [] → Asks args mode octets → decode_of text ≡ Ok octets
+pub asks_text : (args : List (List ℕ)) (word text : List ℕ) (mode : Mode) (octets : List ℕ) → args ≡ word ∷ text ∷ [] → Asks args mode octets
+    → decode_of text ≡ Ok octets
 asks_text args word text mode octets is a = subst (λ w. decode_of w ≡ Ok octets) (sym (ap second_word a.words) ∙ ap second_word is) a.spells
 
 -- the text spells nothing
 pub no_octets : (args : List (List ℕ)) (word text : List ℕ) → args ≡ word ∷ text ∷ [] → ((octets : List ℕ) → decode_of text ≡ Ok octets → ⊥) → AsksNothing args
 no_octets args word text is none mode octets a = none octets (asks_text args word text mode octets is a)
 
-pub two_words : {S : Type 0} (bytes : S → List ℕ) (args : List S) (a b : S) → 2 ≤ length args → length args < 3 → a ≡ slice_index_or args 0 a → b ≡ slice_index_or args 1 b → map bytes args ≡ bytes a ∷ bytes b ∷ []
+pub two_words : {S : Type 0} (bytes : S → List ℕ) (args : List S) (a b : S) → 2 ≤ length args → length args < 3 → a ≡ slice_index_or args 0 a
+    → b ≡ slice_index_or args 1 b → map bytes args ≡ bytes a ∷ bytes b ∷ []
 two_words bytes [] a b h k p q = absurd (omega arith)
 two_words bytes (x ∷ []) a b h k p q = absurd (omega arith)
 two_words bytes (x ∷ y ∷ []) a b h k p q = rw (p, q) refl

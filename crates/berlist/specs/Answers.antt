@@ -20,7 +20,8 @@ IsNoList mode octets = (ts : Trees) → AreEncodings mode ts octets → ⊥
 
 -- the text, if there is one, is the lines of the values that the octets encode, and if there is none they are no list
 abbrev pub IsListOf : {T : Type 0} → (T → List ℕ) → Mode → List ℕ → Option T → Type 0
-IsListOf bytes mode octets r = MatchOption r (IsNoList mode octets) (λ text. (ts : Trees) × AreEncodings mode ts octets × (bytes text ≡ lines_of ts))
+IsListOf bytes mode octets r =
+    MatchOption r (IsNoList mode octets) (λ text. (ts : Trees) × AreEncodings mode ts octets × (bytes text ≡ lines_of ts))
 
 -- the octets are the encodings of a list of values, and its lines were written
 abbrev pub Listed : Mode → List ℕ → Option (List ℕ) → Option (List ℕ) → Type 0

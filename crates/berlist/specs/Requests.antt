@@ -28,6 +28,9 @@ Tells message out_old out_new err_old err_new = Keeps out_old out_new × Appends
 -- how the program ends where it was asked for the octets in the mode
 pub data Ends (mode : Mode) (octets : List ℕ) (out_old out_new err_old err_new : Option (List ℕ)) (status : ℕ) : Type 0 where
   listed : status ≡ 0 → Listed mode octets out_old out_new → Keeps err_old err_new → Ends mode octets out_old out_new err_old err_new status
-  refused : status ≡ 1 → IsNoList mode octets → Tells (codes "refused\n") out_old out_new err_old err_new → Ends mode octets out_old out_new err_old err_new status
-  no_memory : status ≡ 1 → Tells (codes "out of memory\n") out_old out_new err_old err_new → Ends mode octets out_old out_new err_old err_new status
-  out_failed : status ≡ 1 → ListedInPart mode octets out_old out_new → Keeps err_old err_new → Ends mode octets out_old out_new err_old err_new status
+  refused : status ≡ 1 → IsNoList mode octets → Tells (codes "refused\n") out_old out_new err_old err_new
+      → Ends mode octets out_old out_new err_old err_new status
+  no_memory : status ≡ 1 → Tells (codes "out of memory\n") out_old out_new err_old err_new
+      → Ends mode octets out_old out_new err_old err_new status
+  out_failed : status ≡ 1 → ListedInPart mode octets out_old out_new → Keeps err_old err_new
+      → Ends mode octets out_old out_new err_old err_new status

@@ -21,7 +21,8 @@ refusal_line arg e = arg ++ (codes ": " ++ (error_text e ++ codes ".\n"))
 abbrev pub IsNamed : List ℕ → List ℕ → Type 0
 IsNamed arg line = (octets : List ℕ) × IsTextOf arg octets × (line ≡ octets_line octets)
 
--- the line of an argument: the octets of the identifier that it names; or why it names none, or that there was no memory for those that it names
+-- the line of an argument: the octets of the identifier that it names; or why it
+-- names none, or that there was no memory for those that it names
 pub data IsLine (arg line : List ℕ) : Type 0 where
   named : IsNamed arg line → IsLine arg line
   refused : (e : OidError) → RefusesText arg e → line ≡ refusal_line arg e → IsLine arg line

@@ -112,8 +112,8 @@ fn extensions_by_their_identifiers(rt: HostRuntime) -> Result<(), Fail> {
     Ok(())
 }
 
-/// Tries basic constraints that hold an INTEGER in place of a SEQUENCE, and some with an octet behind
-/// them. The position counts all octets.
+/// Tries basic constraints that hold an INTEGER in place of a SEQUENCE, and some with an octet
+/// behind them. The position counts all octets.
 #[test]
 fn other_basic_constraints_are_refused(rt: HostRuntime) -> Result<(), Fail> {
     let other: &[u8] = &[

@@ -441,8 +441,8 @@ fn check_another_tag<S: Source>(
     }
 }
 
-/// Two strings, the second with the tag `[0]` in place of its own, and whether it is one in the mode
-/// (X.690, 8.7.3, 10.2).
+/// Two strings, the second with the tag `[0]` in place of its own, and whether it is one in the
+/// mode (X.690, 8.7.3, 10.2).
 const ANOTHER_TAG: [(Mode, &[u8], bool); 4] = [
     (
         Mode::Ber,

@@ -1,5 +1,6 @@
 -- Equal parts are written one after the other.
-use Rattle.std.proofs.Common.{◌≡◌, ℕ, zero, suc, ◌+◌, ◌-◌, ◌*◌, ◌^◌, ◌<◌, ◌≤◌, List, [], ◌∷◌, ◌++◌, length, Option, Result, Ok, Err, refl, sym, ap, ◌∙◌, subst, inr, arith, length-append}
+use Rattle.std.proofs.Common.{◌≡◌, ℕ, zero, suc, ◌+◌, ◌-◌, ◌*◌, ◌^◌, ◌<◌, ◌≤◌, List, [], ◌∷◌, ◌++◌, length, Option}
+use Rattle.std.proofs.Common.{Result, Ok, Err, refl, sym, ap, ◌∙◌, subst, inr, arith, length-append}
 use Rattle.std.proofs.lemmas.List.{replicate-append-replicate}
 use Rattle.std.specs.Io.KnownBytes.{Appends}
 use Rattle.bcder.specs.declared.encode.error.EncodeError.TheVariants.{SizeOverflow}
@@ -22,11 +23,13 @@ zeros_join n i h =
     let e : i + suc (n - (i + 1)) ≡ n = omega (arith, h) in
     replicate-append-replicate i (suc (n - (i + 1))) 0x00 ∙ ap zeros e
 
-zero_octet : {old new : Option (List ℕ)} {r : Result (Unit {0}) WriteError} → Writes (λ w. w) (Exactly (0x00 ∷ [])) ⊥ old new r → WroteOf ⊥ (0x00 ∷ []) old new r
+zero_octet : {old new : Option (List ℕ)} {r : Result (Unit {0}) WriteError} → Writes (λ w. w) (Exactly (0x00 ∷ [])) ⊥ old new r
+    → WroteOf ⊥ (0x00 ∷ []) old new r
 zero_octet w = wrote_what_is_meant (Exactly (0x00 ∷ [])) (λ m n p q. p ∙ sym q) (λ l. l) ⊥ (0x00 ∷ []) _ _ _ refl w
 
 -- after so many, one was not written
-pub zero_failed : {old mid new : Option (List ℕ)} {r : Result (Unit {0}) WriteError} {e : WriteError} (n i : ℕ) → i < n → Appends old mid (zeros i) → Writes (λ w. w) (Exactly (0x00 ∷ [])) ⊥ mid new r → r ≡ Err e → WroteOf ⊥ (zeros n) old new (Err e)
+pub zero_failed : {old mid new : Option (List ℕ)} {r : Result (Unit {0}) WriteError} {e : WriteError} (n i : ℕ) → i < n → Appends old mid (zeros i)
+    → Writes (λ w. w) (Exactly (0x00 ∷ [])) ⊥ mid new r → r ≡ Err e → WroteOf ⊥ (zeros n) old new (Err e)
 zero_failed {old} {mid} {new} {r} {e} n i h s w is =
     let failed : WroteOf ⊥ (0x00 ∷ []) mid new (Err e) = subst (λ x. WroteOf ⊥ (0x00 ∷ []) mid new x) is (zero_octet w) in
     let before : WroteOf ⊥ (zeros i) old mid (Ok tt) = record { done = s } in
@@ -46,9 +49,11 @@ nulls_end n i h = let e : n - i ≡ 0 = omega (arith, h) in ap NullsMean e
 pub null_one : IsOne NullMeans
 null_one = (primitive_lawful null_tag Ber (Exactly_lawful [] AreOctets-nil)).one
 
-pub null_written : {old new : Option (List ℕ)} {r : Result (Unit {0}) WriteError} (t : Tag) → t ≡ null_tag → Writes encoded_octets (ValueMeans t (primitive_meaning t) (Exactly [])) ⊥ old new r → WritesEncoding NullMeans ⊥ old new r
+pub null_written : {old new : Option (List ℕ)} {r : Result (Unit {0}) WriteError} (t : Tag) → t ≡ null_tag
+    → Writes encoded_octets (ValueMeans t (primitive_meaning t) (Exactly [])) ⊥ old new r → WritesEncoding NullMeans ⊥ old new r
 null_written {old} {new} {r} t is w = λ e m.
-    let written : Writes encoded_octets NullMeans ⊥ old new r = subst (λ t. Writes encoded_octets (ValueMeans t (primitive_meaning t) (Exactly [])) ⊥ old new r) is w in
+    let written : Writes encoded_octets NullMeans ⊥ old new r =
+    subst (λ t. Writes encoded_octets (ValueMeans t (primitive_meaning t) (Exactly [])) ⊥ old new r) is w in
     wrote_what_is_meant NullMeans null_one.same encoded_octets ⊥ e old new r m written
 
 abbrev null : Encoded

@@ -26,4 +26,5 @@ abbrev pub NullsMean : ℕ → Meaning → Type 0
 NullsMean n = EachOf (λ (u : Unit {0}). NullMeans) (replicate n tt)
 
 pub nulls_lawful : (n : ℕ) (mode : Mode) → IsLawful mode (NullsMean n)
-nulls_lawful n mode = EachOf_lawful {P = λ u. Unit {0}} mode (λ u p. primitive_lawful null_tag mode (Exactly_lawful [] AreOctets-nil)) (replicate n tt) (λ k d below. tt)
+nulls_lawful n mode = EachOf_lawful {P = λ u. Unit {0}} mode (λ u p. primitive_lawful null_tag mode (Exactly_lawful [] AreOctets-nil))
+    (replicate n tt) (λ k d below. tt)

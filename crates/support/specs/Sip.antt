@@ -10,5 +10,10 @@ use Rattle.bcder.specs.laws.Limits.{AreOctets-drop}
 abbrev pub sipped : List ℕ → ℕ → ℕ → ℕ → Stream
 sipped octets start avail faults = record { rest = drop start octets; avail = avail; faults = faults; position = start; kept = [] }
 
-pub sipped_sound : (octets : List ℕ) (start avail faults : ℕ) → AreOctets octets → length octets < 2 ^ 64 → start + avail ≤ length octets → IsSound (sipped octets start avail faults)
-sipped_sound octets start avail faults are_octets fit within = record { octets = AreOctets-drop start octets are_octets; size = grind (arith, common_steps, fit); at_hand = grind (arith, common_steps, within) }
+pub sipped_sound : (octets : List ℕ) (start avail faults : ℕ) → AreOctets octets → length octets < 2 ^ 64 → start + avail ≤ length octets
+    → IsSound (sipped octets start avail faults)
+sipped_sound octets start avail faults are_octets fit within = record {
+  octets = AreOctets-drop start octets are_octets;
+  size = grind (arith, common_steps, fit);
+  at_hand = grind (arith, common_steps, within);
+}

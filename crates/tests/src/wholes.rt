@@ -1,5 +1,5 @@
-//! Decoding to the end of a source, and of contents octets, and octets that are lent, with values from
-//! outside.
+//! Decoding to the end of a source, and of contents octets, and octets that are lent, with values
+//! from outside.
 ghost use Rattle.bcder.specs.calls.Views.{Moved};
 
 use crate::asserts::{done, holds, same, shows};

@@ -1,4 +1,5 @@
-//! Reads entries of a revocation list (RFC 5280, section 5.1) that keep lent octets: nothing is copied.
+//! Reads entries of a revocation list (RFC 5280, section 5.1) that keep lent octets: nothing is
+//! copied.
 ghost use Rattle.bcder.specs.calls.Views.{Moved};
 
 use bcder::decode::{Constructed, DecodeError, LendingSource};

@@ -4,7 +4,8 @@ use Rattle.std.specs.Prelude.{ℤ, Result, Ok, Err, IfErr}
 use Rattle.std.specs.Io.KnownBytes.{Appends}
 use Rattle.std.specs.declared.string.ParseError.{Infallible}
 use Rattle.bcder.specs.declared.encode.error.EncodeError.{EncodeError}
-use Rattle.bcder.specs.declared.encode.error.EncodeError.TheVariants.{NoMemory, EndOfValueTag, LengthTooLarge, SizeOverflow, CapturedMode, LongCerBitString, LongCerPrimitive}
+use Rattle.bcder.specs.declared.encode.error.EncodeError.TheVariants.{NoMemory, EndOfValueTag, LengthTooLarge, SizeOverflow}
+use Rattle.bcder.specs.declared.encode.error.EncodeError.TheVariants.{CapturedMode, LongCerBitString, LongCerPrimitive}
 use Rattle.bcder.specs.declared.encode.error.WriteError.{WriteError}
 use Rattle.bcder.specs.declared.encode.error.WriteError.TheVariants.{Refused, Target}
 use Rattle.bcder.specs.declared.decode.error.DecodeError.{DecodeError}

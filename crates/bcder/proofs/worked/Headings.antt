@@ -13,7 +13,8 @@ sequence_of_two : preorder (sequence (integer (5 ∷ []) ∷ₜ boolean (0xFF �
 sequence_of_two = refl
 
 -- of 30 80 30 03 02 01 05 04 00 00 00
-sequence_in_a_sequence : preorder (sequence (sequence (integer (5 ∷ []) ∷ₜ no_trees) ∷ₜ octet_string [] ∷ₜ no_trees)) 0 ≡ heading 16 true 0 ∷ heading 16 true 1 ∷ heading 2 false 2 ∷ heading 4 false 1 ∷ []
+sequence_in_a_sequence : preorder (sequence (sequence (integer (5 ∷ []) ∷ₜ no_trees) ∷ₜ octet_string [] ∷ₜ no_trees)) 0
+    ≡ heading 16 true 0 ∷ heading 16 true 1 ∷ heading 2 false 2 ∷ heading 4 false 1 ∷ []
 sequence_in_a_sequence = refl
 
 -- of 02 01 05 02 01 06

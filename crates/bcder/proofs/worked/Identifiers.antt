@@ -12,11 +12,13 @@ opened = 0
 abbrev spelled : Class → ℕ → List ℕ
 spelled class n = identifier (record { class = class; number = n }) false
 
-each_class_has_its_bits : (spelled universal 1 ≡ 0x01 ∷ []) × (spelled application 1 ≡ 0x41 ∷ []) × (spelled context_specific 1 ≡ 0x81 ∷ []) × (spelled private 1 ≡ 0xC1 ∷ [])
+each_class_has_its_bits : (spelled universal 1 ≡ 0x01 ∷ []) × (spelled application 1 ≡ 0x41 ∷ []) × (spelled context_specific 1 ≡ 0x81 ∷ [])
+    × (spelled private 1 ≡ 0xC1 ∷ [])
 unfolding opened
 each_class_has_its_bits = (refl, refl, refl, refl)
 
-bit_6_marks_constructed_values : (identifier (record { class = universal; number = 16 }) true ≡ 0x30 ∷ []) × (identifier (record { class = context_specific; number = 0 }) true ≡ 0xA0 ∷ [])
+bit_6_marks_constructed_values : (identifier (record { class = universal; number = 16 }) true ≡ 0x30 ∷ [])
+    × (identifier (record { class = context_specific; number = 0 }) true ≡ 0xA0 ∷ [])
 unfolding opened
 bit_6_marks_constructed_values = (refl, refl)
 
@@ -24,11 +26,13 @@ numbers_to_30_take_one_octet : (spelled universal 0 ≡ 0x00 ∷ []) × (spelled
 unfolding opened
 numbers_to_30_take_one_octet = (refl, refl, refl)
 
-numbers_from_31_take_more : (spelled universal 31 ≡ 0x1F ∷ 0x1F ∷ []) × (spelled universal 32 ≡ 0x1F ∷ 0x20 ∷ []) × (spelled context_specific 127 ≡ 0x9F ∷ 0x7F ∷ [])
+numbers_from_31_take_more : (spelled universal 31 ≡ 0x1F ∷ 0x1F ∷ []) × (spelled universal 32 ≡ 0x1F ∷ 0x20 ∷ [])
+    × (spelled context_specific 127 ≡ 0x9F ∷ 0x7F ∷ [])
 unfolding opened
 numbers_from_31_take_more = (refl, refl, refl)
 
-numbers_from_128_take_three : (spelled universal 128 ≡ 0x1F ∷ 0x81 ∷ 0x00 ∷ []) × (spelled application 201 ≡ 0x5F ∷ 0x81 ∷ 0x49 ∷ []) × (spelled universal 16383 ≡ 0x1F ∷ 0xFF ∷ 0x7F ∷ [])
+numbers_from_128_take_three : (spelled universal 128 ≡ 0x1F ∷ 0x81 ∷ 0x00 ∷ []) × (spelled application 201 ≡ 0x5F ∷ 0x81 ∷ 0x49 ∷ [])
+    × (spelled universal 16383 ≡ 0x1F ∷ 0xFF ∷ 0x7F ∷ [])
 unfolding opened
 numbers_from_128_take_three = (refl, refl, refl)
 
@@ -42,7 +46,8 @@ unfolding opened
 small_numbers_have_one_octet_alone = (no_identifier refl, no_identifier refl, no_identifier refl)
 
 -- 8.1.2.4.2 c: the first subsequent octet is not 80
-no_number_begins_with_zero_bits : NoIdentifier (0x1F ∷ 0x80 ∷ 0x1F ∷ 0x00 ∷ []) × NoIdentifier (0xFF ∷ 0x80 ∷ []) × NoIdentifier (0xFF ∷ 0x80 ∷ 0x80 ∷ 0x80 ∷ 0x80 ∷ [])
+no_number_begins_with_zero_bits : NoIdentifier (0x1F ∷ 0x80 ∷ 0x1F ∷ 0x00 ∷ []) × NoIdentifier (0xFF ∷ 0x80 ∷ [])
+    × NoIdentifier (0xFF ∷ 0x80 ∷ 0x80 ∷ 0x80 ∷ 0x80 ∷ [])
 unfolding opened
 no_number_begins_with_zero_bits = (no_identifier refl, no_identifier refl, no_identifier refl)
 

@@ -59,7 +59,8 @@ pub record TellsInAll (n : ℕ) (w : List ℕ) : Type 0 where
   pub cer : IsDefiniteLength Cer n w
   pub der : IsDefiniteLength Der n w
 
-pub tells_in_all : {n : ℕ} {w : List ℕ} → are_octets w ≡ true → read_length Ber w ≡ Some (Definite n, []) → read_length Cer w ≡ Some (Definite n, []) → read_length Der w ≡ Some (Definite n, []) → TellsInAll n w
+pub tells_in_all : {n : ℕ} {w : List ℕ} → are_octets w ≡ true → read_length Ber w ≡ Some (Definite n, []) → read_length Cer w ≡ Some (Definite n, [])
+    → read_length Der w ≡ Some (Definite n, []) → TellsInAll n w
 tells_in_all {n} {w} o b c d = record { ber = tells Ber n w o b; cer = tells Cer n w o c; der = tells Der n w o d }
 
 -- in BER alone; elsewhere nothing at the front of w is length octets
@@ -68,7 +69,8 @@ pub record TellsInBer (n : ℕ) (w : List ℕ) : Type 0 where
   pub cer : NoLength Cer w
   pub der : NoLength Der w
 
-pub tells_in_ber : {n : ℕ} {w : List ℕ} → are_octets w ≡ true → read_length Ber w ≡ Some (Definite n, []) → read_length Cer w ≡ None → read_length Der w ≡ None → TellsInBer n w
+pub tells_in_ber : {n : ℕ} {w : List ℕ} → are_octets w ≡ true → read_length Ber w ≡ Some (Definite n, []) → read_length Cer w ≡ None
+    → read_length Der w ≡ None → TellsInBer n w
 tells_in_ber {n} {w} o b c d = record { ber = tells Ber n w o b; cer = no_length Cer w c; der = no_length Der w d }
 
 pub record TellsInNone (w : List ℕ) : Type 0 where
@@ -139,7 +141,8 @@ pub record TakenInAll (w : List ℕ) (t : Tree) : Type 0 where
   pub cer : IsEncoding Cer t w
   pub der : IsEncoding Der t w
 
-pub taken_in_all : {w : List ℕ} {t : Tree} → are_octets w ≡ true → read_tree Ber w ≡ Some (t, []) → read_tree Cer w ≡ Some (t, []) → read_tree Der w ≡ Some (t, []) → TakenInAll w t
+pub taken_in_all : {w : List ℕ} {t : Tree} → are_octets w ≡ true → read_tree Ber w ≡ Some (t, []) → read_tree Cer w ≡ Some (t, [])
+    → read_tree Der w ≡ Some (t, []) → TakenInAll w t
 taken_in_all {w} {t} o b c d = record { ber = encodes Ber t w o b; cer = encodes Cer t w o c; der = encodes Der t w o d }
 
 -- in BER and CER; in DER no front of w is an encoding
@@ -148,7 +151,8 @@ pub record TakenInBerAndCer (w : List ℕ) (t : Tree) : Type 0 where
   pub cer : IsEncoding Cer t w
   pub der : NoValue Der w
 
-pub taken_in_ber_and_cer : {w : List ℕ} {t : Tree} → are_octets w ≡ true → read_tree Ber w ≡ Some (t, []) → read_tree Cer w ≡ Some (t, []) → read_tree Der w ≡ None → TakenInBerAndCer w t
+pub taken_in_ber_and_cer : {w : List ℕ} {t : Tree} → are_octets w ≡ true → read_tree Ber w ≡ Some (t, []) → read_tree Cer w ≡ Some (t, [])
+    → read_tree Der w ≡ None → TakenInBerAndCer w t
 taken_in_ber_and_cer {w} {t} o b c d = record { ber = encodes Ber t w o b; cer = encodes Cer t w o c; der = no_value Der w d }
 
 pub record TakenInBerAndDer (w : List ℕ) (t : Tree) : Type 0 where
@@ -156,7 +160,8 @@ pub record TakenInBerAndDer (w : List ℕ) (t : Tree) : Type 0 where
   pub cer : NoValue Cer w
   pub der : IsEncoding Der t w
 
-pub taken_in_ber_and_der : {w : List ℕ} {t : Tree} → are_octets w ≡ true → read_tree Ber w ≡ Some (t, []) → read_tree Cer w ≡ None → read_tree Der w ≡ Some (t, []) → TakenInBerAndDer w t
+pub taken_in_ber_and_der : {w : List ℕ} {t : Tree} → are_octets w ≡ true → read_tree Ber w ≡ Some (t, []) → read_tree Cer w ≡ None
+    → read_tree Der w ≡ Some (t, []) → TakenInBerAndDer w t
 taken_in_ber_and_der {w} {t} o b c d = record { ber = encodes Ber t w o b; cer = no_value Cer w c; der = encodes Der t w o d }
 
 pub record TakenInBer (w : List ℕ) (t : Tree) : Type 0 where
@@ -164,7 +169,8 @@ pub record TakenInBer (w : List ℕ) (t : Tree) : Type 0 where
   pub cer : NoValue Cer w
   pub der : NoValue Der w
 
-pub taken_in_ber : {w : List ℕ} {t : Tree} → are_octets w ≡ true → read_tree Ber w ≡ Some (t, []) → read_tree Cer w ≡ None → read_tree Der w ≡ None → TakenInBer w t
+pub taken_in_ber : {w : List ℕ} {t : Tree} → are_octets w ≡ true → read_tree Ber w ≡ Some (t, []) → read_tree Cer w ≡ None
+    → read_tree Der w ≡ None → TakenInBer w t
 taken_in_ber {w} {t} o b c d = record { ber = encodes Ber t w o b; cer = no_value Cer w c; der = no_value Der w d }
 
 pub record TakenInNone (w : List ℕ) : Type 0 where
@@ -193,7 +199,8 @@ pub record ListedInAll (w : List ℕ) (ts : Trees) : Type 0 where
   pub cer : AreEncodings Cer ts w
   pub der : AreEncodings Der ts w
 
-pub listed_in_all : {w : List ℕ} {ts : Trees} → are_octets w ≡ true → read_list Ber false w ≡ Some (ts, []) → read_list Cer false w ≡ Some (ts, []) → read_list Der false w ≡ Some (ts, []) → ListedInAll w ts
+pub listed_in_all : {w : List ℕ} {ts : Trees} → are_octets w ≡ true → read_list Ber false w ≡ Some (ts, []) → read_list Cer false w ≡ Some (ts, [])
+    → read_list Der false w ≡ Some (ts, []) → ListedInAll w ts
 listed_in_all {w} {ts} o b c d = record { ber = encode Ber ts w o b; cer = encode Cer ts w o c; der = encode Der ts w o d }
 
 pub record ListedInNone (w : List ℕ) : Type 0 where

@@ -2,11 +2,14 @@
 use Rattle.std.proofs.Common.{ℕ, List, [], ◌∷◌, refl}
 use Rattle.bcder.specs.x690.Identifier.{universal, context_specific}
 use Rattle.bcder.specs.x690.Tree.{Tree, primitive, constructed, Trees, no_trees, ◌∷ₜ◌}
-use Rattle.bcder.specs.steps.Reading.{third_digit, second_digit, read_number, class_of, is_marked, read_identifier, may_tell, read_long, read_length, read_end, read_header, read_value, at_end, read_trees, read_list, read_tree}
-use Rattle.bcder.proofs.worked.Shown.{TakenInAll, taken_in_all, TakenInBerAndCer, taken_in_ber_and_cer, TakenInBerAndDer, taken_in_ber_and_der, TakenInBer, taken_in_ber, TakenInNone, taken_in_none, ListedInAll, listed_in_all, ListedInNone, listed_in_none}
+use Rattle.bcder.specs.steps.Reading.{third_digit, second_digit, read_number, class_of, is_marked, read_identifier, may_tell, read_long}
+use Rattle.bcder.specs.steps.Reading.{read_length, read_end, read_header, read_value, at_end, read_trees, read_list, read_tree}
+use Rattle.bcder.proofs.worked.Shown.{TakenInAll, taken_in_all, TakenInBerAndCer, taken_in_ber_and_cer, TakenInBerAndDer, taken_in_ber_and_der, TakenInBer}
+use Rattle.bcder.proofs.worked.Shown.{taken_in_ber, TakenInNone, taken_in_none, ListedInAll, listed_in_all, ListedInNone, listed_in_none}
 
 opened : ℕ
-unfolding third_digit second_digit read_number class_of is_marked read_identifier may_tell read_long read_length read_end read_header read_value at_end read_trees read_list read_tree
+unfolding third_digit second_digit read_number class_of is_marked read_identifier may_tell read_long read_length read_end read_header read_value at_end
+    read_trees read_list read_tree
 opened = 0
 
 abbrev pub boolean : List ℕ → Tree
@@ -31,7 +34,8 @@ sequence ts = constructed (record { class = universal; number = 16 }) ts
 indefinite_form : TakenInBerAndCer (0x30 ∷ 0x80 ∷ 0x02 ∷ 0x01 ∷ 0x05 ∷ 0x00 ∷ 0x00 ∷ []) (sequence (integer (5 ∷ []) ∷ₜ no_trees))
     × TakenInBerAndCer (0x30 ∷ 0x80 ∷ 0x00 ∷ 0x00 ∷ []) (sequence no_trees)
     × TakenInBerAndCer (0x30 ∷ 0x80 ∷ 0x30 ∷ 0x80 ∷ 0x00 ∷ 0x00 ∷ 0x00 ∷ 0x00 ∷ []) (sequence (sequence no_trees ∷ₜ no_trees))
-    × TakenInBerAndCer (0x30 ∷ 0x80 ∷ 0x01 ∷ 0x01 ∷ 0xFF ∷ 0x02 ∷ 0x01 ∷ 0x05 ∷ 0x00 ∷ 0x00 ∷ []) (sequence (boolean (0xFF ∷ []) ∷ₜ integer (5 ∷ []) ∷ₜ no_trees))
+    × TakenInBerAndCer (0x30 ∷ 0x80 ∷ 0x01 ∷ 0x01 ∷ 0xFF ∷ 0x02 ∷ 0x01 ∷ 0x05 ∷ 0x00 ∷ 0x00 ∷ [])
+    (sequence (boolean (0xFF ∷ []) ∷ₜ integer (5 ∷ []) ∷ₜ no_trees))
 unfolding opened
 indefinite_form = (
   taken_in_ber_and_cer refl refl refl refl,
@@ -91,9 +95,12 @@ longer_lengths = (
 
 -- each form inside each is BER's
 mixed_forms : TakenInBer (0x30 ∷ 0x04 ∷ 0x30 ∷ 0x80 ∷ 0x00 ∷ 0x00 ∷ []) (sequence (sequence no_trees ∷ₜ no_trees))
-    × TakenInBer (0x30 ∷ 0x80 ∷ 0x30 ∷ 0x03 ∷ 0x02 ∷ 0x01 ∷ 0x05 ∷ 0x04 ∷ 0x00 ∷ 0x00 ∷ 0x00 ∷ []) (sequence (sequence (integer (5 ∷ []) ∷ₜ no_trees) ∷ₜ octet_string [] ∷ₜ no_trees))
-    × TakenInBer (0x24 ∷ 0x0A ∷ 0x04 ∷ 0x01 ∷ 0x61 ∷ 0x24 ∷ 0x80 ∷ 0x04 ∷ 0x01 ∷ 0x62 ∷ 0x00 ∷ 0x00 ∷ []) (octet_strings (octet_string (0x61 ∷ []) ∷ₜ octet_strings (octet_string (0x62 ∷ []) ∷ₜ no_trees) ∷ₜ no_trees))
-    × TakenInBer (0x24 ∷ 0x08 ∷ 0x24 ∷ 0x80 ∷ 0x04 ∷ 0x02 ∷ 0x61 ∷ 0x62 ∷ 0x00 ∷ 0x00 ∷ []) (octet_strings (octet_strings (octet_string (0x61 ∷ 0x62 ∷ []) ∷ₜ no_trees) ∷ₜ no_trees))
+    × TakenInBer (0x30 ∷ 0x80 ∷ 0x30 ∷ 0x03 ∷ 0x02 ∷ 0x01 ∷ 0x05 ∷ 0x04 ∷ 0x00 ∷ 0x00 ∷ 0x00 ∷ [])
+    (sequence (sequence (integer (5 ∷ []) ∷ₜ no_trees) ∷ₜ octet_string [] ∷ₜ no_trees))
+    × TakenInBer (0x24 ∷ 0x0A ∷ 0x04 ∷ 0x01 ∷ 0x61 ∷ 0x24 ∷ 0x80 ∷ 0x04 ∷ 0x01 ∷ 0x62 ∷ 0x00 ∷ 0x00 ∷ [])
+    (octet_strings (octet_string (0x61 ∷ []) ∷ₜ octet_strings (octet_string (0x62 ∷ []) ∷ₜ no_trees) ∷ₜ no_trees))
+    × TakenInBer (0x24 ∷ 0x08 ∷ 0x24 ∷ 0x80 ∷ 0x04 ∷ 0x02 ∷ 0x61 ∷ 0x62 ∷ 0x00 ∷ 0x00 ∷ [])
+    (octet_strings (octet_strings (octet_string (0x61 ∷ 0x62 ∷ []) ∷ₜ no_trees) ∷ₜ no_trees))
 unfolding opened
 mixed_forms = (
   taken_in_ber refl refl refl refl,

@@ -18,7 +18,8 @@ module _ {C T X : Type 0} (view : C → Reading) (post : MutBor C → Result T (
   -- why e was returned: the closure refused, or it returned Ok and left octets
   pub data RefusedAlone (i : Reading) (e : DecodeError X) (j : Reading) : Type 0 where
     by_closure : Answered {R = Result T (DecodeError X)} view post i (Err e) j → RefusedAlone i e j
-    left_octets : (x : T) → Answered {R = Result T (DecodeError X)} view post i (Ok x) j → j.owed ≢ Some 0 → IsRefusal e → RefusedAlone i e j
+    left_octets : (x : T) → Answered {R = Result T (DecodeError X)} view post i (Ok x) j → j.owed ≢ Some 0
+        → IsRefusal e → RefusedAlone i e j
 
   -- a closure got the octets that a source gives, all of them, with n owed
   pub record RanAlone (s : Stream) (n : ℕ) (m : Mode) (r : Result T (DecodeError X)) : Type 0 where

@@ -1,5 +1,6 @@
 -- What calls require of a closure that gets content, and what they say about it.
-use Rattle.std.specs.Prelude.{◌≡◌, ◌≢◌, ◌||◌, ℕ, ◌+◌, ◌-◌, ◌≤◌, Bool, true, false, List, ◌++◌, length, take, Option, Some, None, Result, Ok, Err, IfOk, IfErr, OnOk}
+use Rattle.std.specs.Prelude.{◌≡◌, ◌≢◌, ◌||◌, ℕ, ◌+◌, ◌-◌, ◌≤◌, Bool, true, false, List, ◌++◌, length, take}
+use Rattle.std.specs.Prelude.{Option, Some, None, Result, Ok, Err, IfOk, IfErr, OnOk}
 use Rattle.std.specs.Borrow.{MutBor}
 use Rattle.bcder.specs.declared.mode.Mode.{Mode}
 use Rattle.bcder.specs.declared.length.Length.{Length}
@@ -12,7 +13,8 @@ use Rattle.bcder.specs.declared.decode.error.ContentError.{ContentError}
 use Rattle.bcder.specs.calls.Cause.{Cause, of_source, IsOfContent}
 use Rattle.bcder.specs.x690.Encoding.{IsHeader, IsEncoding, Header}
 use Rattle.bcder.specs.calls.Stream.{Stream, Grew}
-use Rattle.bcder.specs.calls.Content.{Reading, ContentForm, Octets, DefiniteValues, IndefiniteValues, UnboundedValues, label, Moves, Advances, Asked, HasHeader, IsDone, EndsAt, NotAtEnd, NothingThere, NamesViolation}
+use Rattle.bcder.specs.calls.Content.{Reading, ContentForm, Octets, DefiniteValues, IndefiniteValues, UnboundedValues, label, Moves}
+use Rattle.bcder.specs.calls.Content.{Advances, Asked, HasHeader, IsDone, EndsAt, NotAtEnd, NothingThere, NamesViolation}
 
 -- ---- what a closure gets
 
@@ -73,7 +75,8 @@ module _ {C : Type 0} (view : C → Reading) (Handed : Reading → Type 0) where
 module _ {C R : Type 0} (view : C → Reading) (Handed : Tag → Reading → Type 0) where
   -- whatever the closure leaves is reached by lawful steps from the content that it got
   abbrev pub IsLawfulAtAny : (Tag → MutBor C → R → MutBor C → Type 0) → Type 0
-  IsLawfulAtAny post = (t : Tag) (p : MutBor C) (r : R) (q : MutBor C) → Handed t (view p.now) → post t p r q → Moves (view p.now) (view q.now)
+  IsLawfulAtAny post = (t : Tag) (p : MutBor C) (r : R) (q : MutBor C) → Handed t (view p.now) → post t p r q
+      → Moves (view p.now) (view q.now)
 
 module _ {C R : Type 0} (view : C → Reading) (Handed : Reading → Type 0) where
   abbrev pub IsLawfulOn : (MutBor C → R → MutBor C → Type 0) → Type 0
@@ -113,9 +116,11 @@ pub data RefusesEnd {E : Type 0} (why : E → Cause ContentError) (c : Reading) 
 
 -- why the content i of a value was refused with e, and left as j: the closure refused it, or what it left is not at its end;
 -- `why` gives the cause of e
-pub data RefusesContent {C T E : Type 0} (why : E → Cause ContentError) (view : C → Reading) (post : Tag → MutBor C → Result T E → MutBor C → Type 0) (t : Tag) (i : Reading) (e : E) (j : Reading) : Type 0 where
+pub data RefusesContent {C T E : Type 0} (why : E → Cause ContentError) (view : C → Reading)
+    (post : Tag → MutBor C → Result T E → MutBor C → Type 0) (t : Tag) (i : Reading) (e : E) (j : Reading) : Type 0 where
   by_closure : Answered {R = Result T E} view (post t) i (Err e) j → RefusesContent why view post t i e j
-  unfinished : (x : T) (left : Reading) → Answered {R = Result T E} view (post t) i (Ok x) left → Moves left j → j.marked ≡ left.marked → RefusesEnd why left e j → RefusesContent why view post t i e j
+  unfinished : (x : T) (left : Reading) → Answered {R = Result T E} view (post t) i (Ok x) left → Moves left j → j.marked ≡ left.marked
+      → RefusesEnd why left e j → RefusesContent why view post t i e j
 
 -- ---- a value that was taken, or not
 
@@ -138,7 +143,8 @@ module _ {C T E : Type 0} (view : C → Reading) (post : Tag → MutBor C → Re
     pub marked : d.marked ≡ (c.marked || left.marked)
 
 -- an asked header comes next, and the content behind it was refused
-pub record RefusesFront {C T E : Type 0} (why : E → Cause ContentError) (view : C → Reading) (post : Tag → MutBor C → Result T E → MutBor C → Type 0) (asked : Asked) (c : Reading) (e : E) (d : Reading) : Type 0 where
+pub record RefusesFront {C T E : Type 0} (why : E → Cause ContentError) (view : C → Reading)
+    (post : Tag → MutBor C → Result T E → MutBor C → Type 0) (asked : Asked) (c : Reading) (e : E) (d : Reading) : Type 0 where
   pub usable : c.state ≡ Open
   pub after : List ℕ
   pub front : HasHeader asked c after
@@ -152,7 +158,8 @@ pub record RefusesFront {C T E : Type 0} (why : E → Cause ContentError) (view 
   pub refuses : RefusesContent why view post front.tag handed e left
 
 -- why no value was taken from c, with error e; `why` gives its cause
-pub data RefusesValue {C T E : Type 0} (why : E → Cause ContentError) (view : C → Reading) (post : Tag → MutBor C → Result T E → MutBor C → Type 0) (asked : Asked) (c : Reading) (e : E) (d : Reading) : Type 0 where
+pub data RefusesValue {C T E : Type 0} (why : E → Cause ContentError) (view : C → Reading)
+    (post : Tag → MutBor C → Result T E → MutBor C → Type 0) (asked : Asked) (c : Reading) (e : E) (d : Reading) : Type 0 where
   failed : c.state ≡ Failed → IsOfContent (why e) → RefusesValue why view post asked c e d
   source : why e ≡ of_source → Grew c.stream.faults d.stream.faults → RefusesValue why view post asked c e d
   nothing : NothingThere asked c → NamesViolation (why e) c → RefusesValue why view post asked c e d
@@ -168,7 +175,8 @@ pub record HasForm (f : Bool) (asked : Asked) (c : Reading) : Type 0 where
 -- ---- the steps inside a take
 
 -- a closure got content over the source s, and left content over s'
-pub record RunsOver (s : Stream) (o : Option ℕ) (k : ContentForm) (m : Mode) (handed left : Reading) (s' : Stream) (o' : Option ℕ) : Type 0 where
+pub record RunsOver (s : Stream) (o : Option ℕ) (k : ContentForm) (m : Mode) (handed left : Reading) (s' : Stream)
+    (o' : Option ℕ) : Type 0 where
   pub stream : handed.stream ≡ s
   pub owed : handed.owed ≡ o
   pub kind : handed.kind ≡ k
@@ -181,7 +189,8 @@ pub record RunsOver (s : Stream) (o : Option ℕ) (k : ContentForm) (m : Mode) (
 
 module _ {C T E : Type 0} (why : E → Cause ContentError) (view : C → Reading) (post : Tag → MutBor C → Result T E → MutBor C → Type 0) where
   -- a closure ran on content over a source
-  pub record RanOver (s : Stream) (o : Option ℕ) (k : ContentForm) (m : Mode) (t : Tag) (r : Result T E) (mark : Bool) (s' : Stream) (o' : Option ℕ) : Type 0 where
+  pub record RanOver (s : Stream) (o : Option ℕ) (k : ContentForm) (m : Mode) (t : Tag) (r : Result T E) (mark : Bool) (s' : Stream)
+      (o' : Option ℕ) : Type 0 where
     pub handed : Reading
     pub left : Reading
     pub runs : RunsOver s o k m handed left s' o'
@@ -197,7 +206,8 @@ module _ {C T E : Type 0} (why : E → Cause ContentError) (view : C → Reading
     pub handed : Reading
     pub left : Reading
     pub marked : d.marked ≡ (c.marked || left.marked)
-    pub encodes : OnOk r ((octets : List ℕ) → IsHeader c.mode h.tag h.form h.len octets → (tree : Tree) × IsEncoding (label c.mode left.marked) tree (octets ++ passed))
+    pub encodes : OnOk r ((octets : List ℕ) → IsHeader c.mode h.tag h.form h.len octets
+        → (tree : Tree) × IsEncoding (label c.mode left.marked) tree (octets ++ passed))
     pub hands : Hands c.mode h.form h.len c.owed c.stream.rest handed
     pub moves : Moves handed left
     pub follows : h.len ≡ Indefinite → d.stream.rest ≡ left.stream.rest

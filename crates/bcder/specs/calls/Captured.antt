@@ -38,7 +38,8 @@ module _ {S : Type 0} (stream : S → Stream) where
   abbrev pub LawfulOnKept : {R : Type 0} → Kept → (MutBor (Constructed (MutBor S)) → R → MutBor (Constructed (MutBor S)) → Type 0) → Type 0
   LawfulOnKept c post = IsLawfulOn (of_constructed (lent stream)) (IsAllBehind (kept_stream c) c.mode) post
 
-  module _ {T X : Type 0} (post : MutBor (Constructed (MutBor S)) → Result T (DecodeError X) → MutBor (Constructed (MutBor S)) → Type 0) where
+  module _ {T X : Type 0}
+      (post : MutBor (Constructed (MutBor S)) → Result T (DecodeError X) → MutBor (Constructed (MutBor S)) → Type 0) where
     -- x was decoded from the kept octets c, and the octets d are left of them
     pub record DecodesFront (c : Kept) (x : T) (d : Kept) : Type 0 where
       pub name : ℕ
@@ -54,7 +55,8 @@ module _ {S : Type 0} (stream : S → Stream) where
 
     -- nothing was decoded from the kept octets c, and e was returned
     pub data RefusesKept (c : Kept) (e : DecodeError X) : Type 0 where
-      by_decode : (name : ℕ) (left : Stream) → RefusesDecode cause_of (of_constructed (lent stream)) post (borrowed name (kept_stream c)) c.mode e (borrowed name left) → RefusesKept c e
+      by_decode : (name : ℕ) (left : Stream) → RefusesDecode cause_of (of_constructed (lent stream)) post
+          (borrowed name (kept_stream c)) c.mode e (borrowed name left) → RefusesKept c e
       by_memory : cause_of e ≡ of_memory → RefusesKept c e
 
     module _ (c : Both (MutBor Kept) (MutBor Kept)) (r : Result T (DecodeError X)) where

@@ -1,5 +1,6 @@
 -- What a capture requires of its closure, and what it returns and leaves.
-use Rattle.std.specs.Prelude.{◌≡◌, ◌≢◌, ◌||◌, ℕ, ◌-◌, ◌<◌, ◌≤◌, Bool, true, false, List, [], ◌++◌, length, take, Option, Result, Ok, IfOk, IfErr, OnOk}
+use Rattle.std.specs.Prelude.{◌≡◌, ◌≢◌, ◌||◌, ℕ, ◌-◌, ◌<◌, ◌≤◌, Bool, true, false, List, [], ◌++◌}
+use Rattle.std.specs.Prelude.{length, take, Option, Result, Ok, IfOk, IfErr, OnOk}
 use Rattle.std.specs.Borrow.{MutBor}
 use denote.Triple.Both.{Both}
 use Rattle.bcder.specs.declared.mode.Mode.{Mode}
@@ -68,8 +69,10 @@ module _ {C X : Type 0} (view : C → Reading) (post : MutBor C → Result (Unit
   -- the closure refused, or left failed content; or then the source failed, or memory ran out for octets that the closure passed
   pub data RefusesLeft (handed : Reading) (e : DecodeError X) (left : Reading) (faults : ℕ) : Type 0 where
     by_content : RefusesOn cause_of view post handed e left → faults ≡ left.stream.faults → RefusesLeft handed e left faults
-    by_source : Answered {R = Result (Unit {0}) (DecodeError X)} view post handed (Ok tt) left → left.state ≢ Failed → cause_of e ≡ of_source → Grew left.stream.faults faults → RefusesLeft handed e left faults
-    by_memory : Answered {R = Result (Unit {0}) (DecodeError X)} view post handed (Ok tt) left → left.state ≢ Failed → cause_of e ≡ of_memory → PassesSome handed left → faults ≡ left.stream.faults → RefusesLeft handed e left faults
+    by_source : Answered {R = Result (Unit {0}) (DecodeError X)} view post handed (Ok tt) left → left.state ≢ Failed
+        → cause_of e ≡ of_source → Grew left.stream.faults faults → RefusesLeft handed e left faults
+    by_memory : Answered {R = Result (Unit {0}) (DecodeError X)} view post handed (Ok tt) left → left.state ≢ Failed
+        → cause_of e ≡ of_memory → PassesSome handed left → faults ≡ left.stream.faults → RefusesLeft handed e left faults
 
   -- nothing was captured from c, and e was returned: the rest and the state of c are as they were
   pub record RefusesCapture (c : Reading) (e : DecodeError X) (d : Reading) : Type 0 where
@@ -94,10 +97,14 @@ module _ {S : Type 0} (stream : S → Stream) where
   abbrev pub CallableOnCapture : MutBor (Constructed S) → (MutBor (Constructed (CaptureSource (LimitedSource S))) → Type 0) → Type 0
   CallableOnCapture c pre = MayBeCalledOn of_captured (IsCaptureOf (of_constructed stream c.now)) pre
 
-  abbrev pub LawfulOnCapture : {R : Type 0} → MutBor (Constructed S) → (MutBor (Constructed (CaptureSource (LimitedSource S))) → R → MutBor (Constructed (CaptureSource (LimitedSource S))) → Type 0) → Type 0
+  abbrev pub LawfulOnCapture : {R : Type 0} → MutBor (Constructed S)
+      → (MutBor (Constructed (CaptureSource (LimitedSource S))) → R → MutBor (Constructed (CaptureSource (LimitedSource S))) → Type 0)
+      → Type 0
   LawfulOnCapture c post = IsLawfulOn of_captured (IsCaptureOf (of_constructed stream c.now)) post
 
-  module _ {X : Type 0} (post : MutBor (Constructed (CaptureSource (LimitedSource S))) → Result (Unit {0}) (DecodeError X) → MutBor (Constructed (CaptureSource (LimitedSource S))) → Type 0) (c : Both (MutBor (Constructed S)) (MutBor (Constructed S))) (r : Result Kept (DecodeError X)) where
+  module _ {X : Type 0} (post : MutBor (Constructed (CaptureSource (LimitedSource S))) → Result (Unit {0}) (DecodeError X)
+      → MutBor (Constructed (CaptureSource (LimitedSource S))) → Type 0) (c : Both (MutBor (Constructed S)) (MutBor (Constructed S)))
+      (r : Result Kept (DecodeError X)) where
     -- what was captured, or why nothing was
     abbrev pub CapturedWhat : Type 0
     CapturedWhat = IfOk r (λ k. Captures of_captured post (before stream c) k (after stream c))
@@ -126,9 +133,11 @@ pub record EndsBy (mode : Mode) (w : List ℕ) (n : ℕ) : Type 0 where
 
 -- ---- the steps inside a capture
 
-module _ {C E : Type 0} (why : E → Cause ContentError) (view : C → Reading) (post : MutBor C → Result (Unit {0}) E → MutBor C → Type 0) where
+module _ {C E : Type 0} (why : E → Cause ContentError) (view : C → Reading)
+    (post : MutBor C → Result (Unit {0}) E → MutBor C → Type 0) where
   -- a closure ran on content over a stream, in any state, and left it with this state and mark
-  pub record RanFrom (s : Stream) (o : Option ℕ) (k : Kind) (st : State) (m : Mode) (r : Result (Unit {0}) E) (st' : State) (mark : Bool) (s' : Stream) (o' : Option ℕ) : Type 0 where
+  pub record RanFrom (s : Stream) (o : Option ℕ) (k : Kind) (st : State) (m : Mode) (r : Result (Unit {0}) E) (st' : State) (mark : Bool)
+      (s' : Stream) (o' : Option ℕ) : Type 0 where
     pub handed : Reading
     pub left : Reading
     pub from : IsOver s o (values k) st m handed
@@ -160,7 +169,8 @@ module _ {C X : Type 0} (view : C → Reading) (post : MutBor C → Result (Unit
     pub refuses : RefusesLeft view post handed e left s'.faults
 
   -- a closure ran over a source up to a limit: the octets that it passed were taken, or none were
-  pub record CapturesOver (s : Stream) (o : Option ℕ) (k : Kind) (st : State) (m : Mode) (r : Result (List ℕ) (DecodeError X)) (st' : State) (mark : Bool) (s' : Stream) : Type 0 where
+  pub record CapturesOver (s : Stream) (o : Option ℕ) (k : Kind) (st : State) (m : Mode) (r : Result (List ℕ) (DecodeError X)) (st' : State)
+      (mark : Bool) (s' : Stream) : Type 0 where
     pub handed : Reading
     pub left : Reading
     pub hands : HandsOver s o k st m handed
@@ -176,5 +186,6 @@ module _ {S : Type 0} (stream : S → Stream) where
   abbrev pub CallableOver : MutBor S → Option ℕ → Kind → State → Mode → (MutBor (Constructed (CaptureSource S)) → Type 0) → Type 0
   CallableOver s o k st m pre = MayBeCalledOn (of_constructed (capturing stream)) (HandsOver (stream s.now) o k st m) pre
 
-  abbrev pub LawfulOver : {R : Type 0} → MutBor S → Option ℕ → Kind → State → Mode → (MutBor (Constructed (CaptureSource S)) → R → MutBor (Constructed (CaptureSource S)) → Type 0) → Type 0
+  abbrev pub LawfulOver : {R : Type 0} → MutBor S → Option ℕ → Kind → State → Mode
+      → (MutBor (Constructed (CaptureSource S)) → R → MutBor (Constructed (CaptureSource S)) → Type 0) → Type 0
   LawfulOver s o k st m post = IsLawfulOn (of_constructed (capturing stream)) (HandsOver (stream s.now) o k st m) post

@@ -1,5 +1,6 @@
 -- When the next value is captured, and when all values up to the end of content are.
-use Rattle.std.specs.Prelude.{◌≡◌, ◌≢◌, ◌⊎◌, ℕ, ◌≤◌, true, List, [], ◌∷◌, ◌++◌, Option, Result, IsOkAnd, IsErrAnd, IfOk, IfErr, IfSome, IfNone, IsSomeAnd, OnOk, OnErr, IsOk, IsTrue, is_none}
+use Rattle.std.specs.Prelude.{◌≡◌, ◌≢◌, ◌⊎◌, ℕ, ◌≤◌, true, List, [], ◌∷◌, ◌++◌, Option, Result, IsOkAnd, IsErrAnd, IfOk}
+use Rattle.std.specs.Prelude.{IfErr, IfSome, IfNone, IsSomeAnd, OnOk, OnErr, IsOk, IsTrue, is_none}
 use Rattle.std.specs.Borrow.{MutBor}
 use denote.Triple.Both.{Both}
 use Rattle.bcder.specs.declared.decode.content.Constructed.{Constructed}
@@ -39,7 +40,8 @@ abbrev pub WantsMemory : {T X : Type 0} → Result T (DecodeError X) → Type 0
 WantsMemory r = IsErrAnd r (λ e. cause_of e ≡ of_memory)
 
 -- octets were captured, as Q says, or not, as when there is none of what is asked for; memory runs out only if there is some
-pub record CapturesBy {X : Type 0} (Q : Reading → Kept → Reading → Type 0) (HasNone HasSome : Reading → Type 0) (c : Reading) (r : Result Kept (DecodeError X)) (d : Reading) : Type 0 where
+pub record CapturesBy {X : Type 0} (Q : Reading → Kept → Reading → Type 0) (HasNone HasSome : Reading → Type 0) (c : Reading)
+    (r : Result Kept (DecodeError X)) (d : Reading) : Type 0 where
   pub captured : IfOk r (λ k. Q c k d)
   pub no_fault : OnOk r (d.stream.faults ≡ c.stream.faults)
   pub refused : IfErr r (λ e. RefusesWhere (HasNone c) (HasSome c) c e d)
@@ -48,7 +50,8 @@ pub record CapturesBy {X : Type 0} (Q : Reading → Kept → Reading → Type 0)
   pub marked : d.marked ≡ c.marked
 
 -- the step that is captured: it passed what is asked for, or refused; memory runs out only if values are deep
-pub record PassesBy {T X : Type 0} (Q : Reading → Reading → Type 0) (HasNone IsDeep : Reading → Type 0) (c : Reading) (r : Result T (DecodeError X)) (d : Reading) : Type 0 where
+pub record PassesBy {T X : Type 0} (Q : Reading → Reading → Type 0) (HasNone IsDeep : Reading → Type 0) (c : Reading)
+    (r : Result T (DecodeError X)) (d : Reading) : Type 0 where
   pub passed : OnOk r (Q c d)
   pub no_fault : OnOk r (d.stream.faults ≡ c.stream.faults)
   pub refused : IfErr r (λ e. RefusesWhere (HasNone c) (IsDeep c) c e d)
@@ -175,7 +178,8 @@ module _ {S : Type 0} (stream : S → Stream) (c : Both (MutBor (Constructed S))
 
     -- unless the source failed or memory ran out, the next value is captured if there is one
     abbrev pub ExactlyOne : Type 0
-    ExactlyOne = (Grew (before stream c).stream.faults (after stream c).stream.faults → ⊥) → (WantsMemory r → ⊥) → (t : Tree) (w after : List ℕ) → HasValue (before stream c) t w after → IsOkAnd r (λ k. k.octets ≡ w)
+    ExactlyOne = (Grew (before stream c).stream.faults (after stream c).stream.faults → ⊥) → (WantsMemory r → ⊥)
+        → (t : Tree) (w after : List ℕ) → HasValue (before stream c) t w after → IsOkAnd r (λ k. k.octets ≡ w)
 
     -- all values were captured, or why they were not
     abbrev pub CapturedAll : Type 0
@@ -184,7 +188,8 @@ module _ {S : Type 0} (stream : S → Stream) (c : Both (MutBor (Constructed S))
     -- unless the source failed or memory ran out, all values are captured if the rest up to the end is encodings,
     -- or if the content has ended
     abbrev pub CapturesExactlyAll : Type 0
-    CapturesExactlyAll = (Grew (before stream c).stream.faults (after stream c).stream.faults → ⊥) → (WantsMemory r → ⊥) → (HasValues (before stream c) → (before stream c).state ≡ Open → IsOk r) × ((before stream c).state ≡ Ended → IsOk r)
+    CapturesExactlyAll = (Grew (before stream c).stream.faults (after stream c).stream.faults → ⊥) → (WantsMemory r → ⊥)
+        → (HasValues (before stream c) → (before stream c).state ≡ Open → IsOk r) × ((before stream c).state ≡ Ended → IsOk r)
 
   module _ {X : Type 0} (r : Result (Option Kept) (DecodeError X)) where
     -- the next value was captured, or content was at its end, or why it was neither

@@ -67,7 +67,8 @@ Falls None k (Some n) = n ≢ n
 
 -- the octets e that end content: none, or the end marker of indefinite content
 abbrev pub Closes : Mode → Reading → List ℕ → Reading → Type 0
-Closes mode c e d = (e ≡ []) × (d.state ≡ c.state) ⊎ IsEndOfContents mode e × (c.kind ≡ IndefiniteValues) × (c.state ≡ Open) × (d.state ≡ Ended)
+Closes mode c e d = (e ≡ []) × (d.state ≡ c.state)
+    ⊎ IsEndOfContents mode e × (c.kind ≡ IndefiniteValues) × (c.state ≡ Open) × (d.state ≡ Ended)
 
 -- the octets passed are whole values in the mode, and perhaps the end marker
 pub record Whole (mode : Mode) (c : Reading) (passed : List ℕ) (d : Reading) : Type 0 where

@@ -23,12 +23,15 @@ IsAllBehind s m i = (name : ℕ) × IsAllOf (borrowed name s) m i
 
 -- why content i was refused with e, and left as j: the closure refused it, or returned Ok and left failed content;
 -- `why` gives the cause of e
-pub data RefusesOn {C T E : Type 0} (why : E → Cause ContentError) (view : C → Reading) (post : MutBor C → Result T E → MutBor C → Type 0) (i : Reading) (e : E) (j : Reading) : Type 0 where
+pub data RefusesOn {C T E : Type 0} (why : E → Cause ContentError) (view : C → Reading) (post : MutBor C → Result T E → MutBor C → Type 0)
+    (i : Reading) (e : E) (j : Reading) : Type 0 where
   by_closure : Answered {R = Result T E} view post i (Err e) j → RefusesOn why view post i e j
-  left_failed : (x : T) → Answered {R = Result T E} view post i (Ok x) j → j.state ≡ Failed → IsOfContent (why e) → RefusesOn why view post i e j
+  left_failed : (x : T) → Answered {R = Result T E} view post i (Ok x) j → j.state ≡ Failed → IsOfContent (why e)
+      → RefusesOn why view post i e j
 
 -- a closure ran on values up to the end of a source
-pub record RanOn {C T E : Type 0} (why : E → Cause ContentError) (view : C → Reading) (post : MutBor C → Result T E → MutBor C → Type 0) (s : Stream) (o : Option ℕ) (m : Mode) (r : Result T E) (s' : Stream) (o' : Option ℕ) : Type 0 where
+pub record RanOn {C T E : Type 0} (why : E → Cause ContentError) (view : C → Reading) (post : MutBor C → Result T E → MutBor C → Type 0)
+    (s : Stream) (o : Option ℕ) (m : Mode) (r : Result T E) (s' : Stream) (o' : Option ℕ) : Type 0 where
   pub handed : Reading
   pub left : Reading
   pub runs : RunsOver s o UnboundedValues m handed left s' o'
@@ -43,7 +46,8 @@ pub record HandsAll (s : Stream) (m : Mode) (i j : Reading) (s' : Stream) : Type
   pub moves : Moves i j
 
 -- x was decoded from the source s in a mode, and s' is left of it
-pub record Decodes {C T E : Type 0} (view : C → Reading) (post : MutBor C → Result T E → MutBor C → Type 0) (s : Stream) (m : Mode) (x : T) (s' : Stream) : Type 0 where
+pub record Decodes {C T E : Type 0} (view : C → Reading) (post : MutBor C → Result T E → MutBor C → Type 0) (s : Stream) (m : Mode) (x : T)
+    (s' : Stream) : Type 0 where
   pub handed : Reading
   pub left : Reading
   pub hands : HandsAll s m handed left s'
@@ -51,7 +55,8 @@ pub record Decodes {C T E : Type 0} (view : C → Reading) (post : MutBor C → 
   pub usable : left.state ≢ Failed
 
 -- nothing was decoded from the source s in a mode, e was returned, and s' is left of it
-pub record RefusesDecode {C T E : Type 0} (why : E → Cause ContentError) (view : C → Reading) (post : MutBor C → Result T E → MutBor C → Type 0) (s : Stream) (m : Mode) (e : E) (s' : Stream) : Type 0 where
+pub record RefusesDecode {C T E : Type 0} (why : E → Cause ContentError) (view : C → Reading)
+    (post : MutBor C → Result T E → MutBor C → Type 0) (s : Stream) (m : Mode) (e : E) (s' : Stream) : Type 0 where
   pub handed : Reading
   pub left : Reading
   pub hands : HandsAll s m handed left s'
@@ -71,10 +76,12 @@ module _ {S : Type 0} (stream : S → Stream) where
   abbrev pub CallableOnLent : MutBor S → Mode → (MutBor (Constructed (MutBor S)) → Type 0) → Type 0
   CallableOnLent s m pre = MayBeCalledOn (of_constructed (lent stream)) (IsAllBehind (stream s.now) m) pre
 
-  abbrev pub LawfulOnLent : {R : Type 0} → MutBor S → Mode → (MutBor (Constructed (MutBor S)) → R → MutBor (Constructed (MutBor S)) → Type 0) → Type 0
+  abbrev pub LawfulOnLent : {R : Type 0} → MutBor S → Mode
+      → (MutBor (Constructed (MutBor S)) → R → MutBor (Constructed (MutBor S)) → Type 0) → Type 0
   LawfulOnLent s m post = IsLawfulOn (of_constructed (lent stream)) (IsAllBehind (stream s.now) m) post
 
-  module _ {T X : Type 0} (post : MutBor (Constructed S) → Result T (DecodeError X) → MutBor (Constructed S) → Type 0) (s : Stream) (m : Mode) (r : Result T (DecodeError X)) where
+  module _ {T X : Type 0} (post : MutBor (Constructed S) → Result T (DecodeError X) → MutBor (Constructed S) → Type 0) (s : Stream)
+      (m : Mode) (r : Result T (DecodeError X)) where
     -- what was decoded from a source passed by value, or why nothing was
     abbrev pub DecodesAll : Type 0
     DecodesAll = IfOk r (λ x. (left : Stream) × Decodes (of_constructed stream) post s m x left)
@@ -82,10 +89,13 @@ module _ {S : Type 0} (stream : S → Stream) where
     abbrev pub RefusesAll : Type 0
     RefusesAll = IfErr r (λ e. (left : Stream) × RefusesDecode cause_of (of_constructed stream) post s m e left)
 
-  module _ {T X : Type 0} (post : MutBor (Constructed (MutBor S)) → Result T (DecodeError X) → MutBor (Constructed (MutBor S)) → Type 0) (s : Both (MutBor S) (MutBor S)) (m : Mode) (r : Result T (DecodeError X)) where
+  module _ {T X : Type 0} (post : MutBor (Constructed (MutBor S)) → Result T (DecodeError X) → MutBor (Constructed (MutBor S)) → Type 0)
+      (s : Both (MutBor S) (MutBor S)) (m : Mode) (r : Result T (DecodeError X)) where
     -- what was decoded from a borrowed source, which its owner goes on with, or why nothing was
     abbrev pub DecodesLent : Type 0
-    DecodesLent = IfOk r (λ x. (name : ℕ) × Decodes (of_constructed (lent stream)) post (borrowed name (stream s.entry.now)) m x (borrowed name (stream s.exit.now)))
+    DecodesLent = IfOk r (λ x. (name : ℕ)
+        × Decodes (of_constructed (lent stream)) post (borrowed name (stream s.entry.now)) m x (borrowed name (stream s.exit.now)))
 
     abbrev pub RefusesLent : Type 0
-    RefusesLent = IfErr r (λ e. (name : ℕ) × RefusesDecode cause_of (of_constructed (lent stream)) post (borrowed name (stream s.entry.now)) m e (borrowed name (stream s.exit.now)))
+    RefusesLent = IfErr r (λ e. (name : ℕ) × RefusesDecode cause_of (of_constructed (lent stream)) post
+        (borrowed name (stream s.entry.now)) m e (borrowed name (stream s.exit.now)))

@@ -64,20 +64,23 @@ pub record WroteOf (lacks : Type 0) (w : List ℕ) (old new : Option (List ℕ))
   pub done : DoneOf lacks w old new r
 
 -- what is meant is octets, and they were written
-pub record WroteMeant {A : Type 0} (octets : A → List ℕ) (M : Result A EncodeError → Type 0) (lacks : Type 0) (old new : Option (List ℕ)) (r : Result (Unit {0}) WriteError) : Type 0 where
+pub record WroteMeant {A : Type 0} (octets : A → List ℕ) (M : Result A EncodeError → Type 0) (lacks : Type 0) (old new : Option (List ℕ))
+    (r : Result (Unit {0}) WriteError) : Type 0 where
   pub what : A
   pub meant : M (Ok what)
   pub wrote : WroteOf lacks (octets what) old new r
 
 -- the writing was refused, and nothing was written
-pub record WroteNothing {A : Type 0} (M : Result A EncodeError → Type 0) (lacks : Type 0) (old new : Option (List ℕ)) (r : Result (Unit {0}) WriteError) : Type 0 where
+pub record WroteNothing {A : Type 0} (M : Result A EncodeError → Type 0) (lacks : Type 0) (old new : Option (List ℕ))
+    (r : Result (Unit {0}) WriteError) : Type 0 where
   pub error : EncodeError
   pub answered : r ≡ Err (Refused error)
   pub refuses : RefusesBy M lacks error
   pub kept : Keeps old new
 
 -- r says how the writing of what is meant went
-abbrev pub Writes : {A : Type 0} → (A → List ℕ) → (Result A EncodeError → Type 0) → Type 0 → Option (List ℕ) → Option (List ℕ) → Result (Unit {0}) WriteError → Type 0
+abbrev pub Writes : {A : Type 0} → (A → List ℕ) → (Result A EncodeError → Type 0) → Type 0 → Option (List ℕ) → Option (List ℕ)
+    → Result (Unit {0}) WriteError → Type 0
 Writes octets M lacks old new r = WroteMeant octets M lacks old new r ⊎ WroteNothing M lacks old new r
 
 -- r says how the writing of what is meant went, if that is known to be no refusal
@@ -104,7 +107,8 @@ module _ {W : Type 0} (contents : W → Option (List ℕ)) (target : Both (MutBo
 
   -- r says how the writing of a primitive value with these contents octets went
   abbrev pub WritesPrimitive : Tag → (ContentsMeaning → Type 0) → Type 0 → Result (Unit {0}) WriteError → Type 0
-  WritesPrimitive t M lacks r = IsOne M → (w : List ℕ) → M (Ok w) → WroteOf lacks (definite t false w) (contents target.entry.now) (contents target.exit.now) r
+  WritesPrimitive t M lacks r = IsOne M → (w : List ℕ) → M (Ok w)
+      → WroteOf lacks (definite t false w) (contents target.entry.now) (contents target.exit.now) r
 
 -- ---- in memory
 

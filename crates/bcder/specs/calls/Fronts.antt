@@ -22,4 +22,5 @@ BeginsEnd mode w = (end x : List ℕ) × IsEndOfContents mode end × (w ≡ end 
 
 -- where content was refused, the text names what the identifier octets in front violate
 abbrev pub NamesFront : {S : Type 0} → List ℕ → DecodeError S → Type 0
-NamesFront w e = MatchCause (cause_of e) (Unit {0}) ((r : Violation) × ViolatesFront Ber w r × (cause_of e ≡ of_content (Static (violation_text r)))) (Unit {0})
+NamesFront w e = MatchCause (cause_of e) (Unit {0})
+    ((r : Violation) × ViolatesFront Ber w r × (cause_of e ≡ of_content (Static (violation_text r)))) (Unit {0})

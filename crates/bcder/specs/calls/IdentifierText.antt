@@ -77,8 +77,10 @@ pub data RefusesTexts (a b : List ℕ) (ts : List (List ℕ)) (e : OidError) : T
   first_too_large : (m : ℕ) → e ≡ First → IsComponentText a m → 2 < m → RefusesTexts a b ts e
   second_is_none : (m : ℕ) → e ≡ NotInteger → IsComponentText a m → m ≤ 2 → IsNoComponent b → RefusesTexts a b ts e
   second_too_large : (m n : ℕ) → e ≡ Second → IsComponentText a m → m < 2 → IsComponentText b n → 40 ≤ n → RefusesTexts a b ts e
-  other_is_none : (m n : ℕ) → e ≡ NotInteger → IsComponentText a m → IsComponentText b n → MayBegin m n → HasNoComponent ts → RefusesTexts a b ts e
-  no_memory : (m n : ℕ) (ns : List ℕ) → e ≡ NoMemory → IsComponentText a m → IsComponentText b n → MayBegin m n → AreComponentTexts ts ns → RefusesTexts a b ts e
+  other_is_none : (m n : ℕ) → e ≡ NotInteger → IsComponentText a m → IsComponentText b n → MayBegin m n → HasNoComponent ts
+      → RefusesTexts a b ts e
+  no_memory : (m n : ℕ) (ns : List ℕ) → e ≡ NoMemory → IsComponentText a m → IsComponentText b n → MayBegin m n → AreComponentTexts ts ns
+      → RefusesTexts a b ts e
 
 -- the text has two or more components, and these are the octets of the identifier that it denotes
 abbrev pub ReadsParts : List (List ℕ) → List ℕ → Type 0

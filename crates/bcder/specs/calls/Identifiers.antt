@@ -9,11 +9,13 @@ use Rattle.bcder.specs.calls.IdentifierText.{between_dots, AreComponentTexts, Is
 
 -- the octets of a subidentifier that don't begin with 80 are the fewest for its number
 abbrev pub NoFewer : Type 0
-NoFewer = (v w : List ℕ) → IsWhole v → IsWhole w → subidentifier_number v ≡ subidentifier_number w → slice_index v 0 ≢ 0x80 → length v ≤ length w
+NoFewer = (v w : List ℕ) → IsWhole v → IsWhole w → subidentifier_number v ≡ subidentifier_number w
+    → slice_index v 0 ≢ 0x80 → length v ≤ length w
 
 -- a number has only one subidentifier that doesn't begin with 80, and only one of each length
 abbrev pub OneFewest : Type 0
-OneFewest = (v w : List ℕ) → IsWhole v → IsWhole w → subidentifier_number v ≡ subidentifier_number w → slice_index v 0 ≢ 0x80 → slice_index w 0 ≢ 0x80 → v ≡ w
+OneFewest = (v w : List ℕ) → IsWhole v → IsWhole w → subidentifier_number v ≡ subidentifier_number w → slice_index v 0 ≢ 0x80
+    → slice_index w 0 ≢ 0x80 → v ≡ w
 
 abbrev pub OneOfLength : Type 0
 OneOfLength = (v w : List ℕ) → IsWhole v → IsWhole w → subidentifier_number v ≡ subidentifier_number w → length v ≡ length w → v ≡ w
@@ -36,4 +38,5 @@ TextIsHeld = (text w : List ℕ) → IsTextOf text w → IsComplete w × AreComp
 
 -- complete octets in which each subidentifier has the fewest octets and each component fits are read from their text
 abbrev pub TextIsReadBack : Type 0
-TextIsReadBack = (w : List ℕ) → AreOctets w → IsComplete w → All (λ v. slice_index v 0 ≢ 0x80) (subidentifiers w) → All (λ n. n < 2 ^ 32) (components w) → IsTextOf (text_of w) w
+TextIsReadBack = (w : List ℕ) → AreOctets w → IsComplete w → All (λ v. slice_index v 0 ≢ 0x80) (subidentifiers w)
+    → All (λ n. n < 2 ^ 32) (components w) → IsTextOf (text_of w) w

@@ -13,11 +13,13 @@ use Rattle.bcder.specs.laws.Joined.{EachOf_lawful}
 abbrev pub MeanSame : {A : Type 0} → (A → Mode → Meaning → Type 0) → A → A → Type 0
 MeanSame means y z = (z ≡ y) ⊎ (SameMeaning means z y × SameMeaning means y z)
 
-pub to_first : {A : Type 0} (means : A → Mode → Meaning → Type 0) (y z : A) → MeanSame means y z → (mode : Mode) (m : Meaning) → means z mode m → means y mode m
+pub to_first : {A : Type 0} (means : A → Mode → Meaning → Type 0) (y z : A) → MeanSame means y z → (mode : Mode) (m : Meaning)
+    → means z mode m → means y mode m
 to_first means y z (inl is) mode m h = subst (λ x. means x mode m) is h
 to_first means y z (inr s) mode m h = s.0.same mode m h
 
-pub to_second : {A : Type 0} (means : A → Mode → Meaning → Type 0) (y z : A) → MeanSame means y z → (mode : Mode) (m : Meaning) → means y mode m → means z mode m
+pub to_second : {A : Type 0} (means : A → Mode → Meaning → Type 0) (y z : A) → MeanSame means y z → (mode : Mode) (m : Meaning)
+    → means y mode m → means z mode m
 to_second means y z (inl is) mode m h = rw is h
 to_second means y z (inr s) mode m h = s.1.same mode m h
 
@@ -43,7 +45,8 @@ module _ {T I A : Type 0} (is_clone : T → T → Type 0) (gives : T → I → T
   RunsMean M x (Err e) = (xs : List A) × Begins x xs × EachOf M xs (Err e)
 
 -- a run over the items of a clone gives one for which memory may run out
-pub record GivesLacking {T I A : Type 0} (is_clone : T → T → Type 0) (gives : T → I → Type 0) (steps : I → Option A → I → Type 0) (lacks : A → Type 0) (x : T) : Type 0 where
+pub record GivesLacking {T I A : Type 0} (is_clone : T → T → Type 0) (gives : T → I → Type 0) (steps : I → Option A → I → Type 0)
+    (lacks : A → Type 0) (x : T) : Type 0 where
   pub before : List A
   pub begins : Begins is_clone gives steps x before
   pub item : A
@@ -52,17 +55,20 @@ pub record GivesLacking {T I A : Type 0} (is_clone : T → T → Type 0) (gives 
   pub may : lacks item
 
 -- when memory may run out while the items of a clone are gone over: the clone may fail, or memory may run out for an item that a run gives
-abbrev pub RunsLack : {T I A : Type 0} → (T → T → Type 0) → (T → Type 0) → (T → I → Type 0) → (I → Option A → I → Type 0) → (A → Type 0) → T → Type 0
+abbrev pub RunsLack : {T I A : Type 0} → (T → T → Type 0) → (T → Type 0) → (T → I → Type 0) → (I → Option A → I → Type 0)
+    → (A → Type 0) → T → Type 0
 RunsLack is_clone is_infallible gives steps lacks x = (is_infallible x → ⊥) ⊎ GivesLacking is_clone gives steps lacks x
 
 module _ {I A : Type 0} (steps : I → Option A → I → Type 0) (can : A → Type 0) (means : A → Mode → Meaning → Type 0) where
   -- each run from s gives items that may be encoded and mean what the items of ys mean
   abbrev pub AlwaysGives : I → List A → Type 0
   AlwaysGives s [] = (x : A) (t : I) → steps s (Some x) t → ⊥
-  AlwaysGives s (y ∷ ys) = ((t : I) → steps s None t → ⊥) × ((x : A) (t : I) → steps s (Some x) t → (can x × MeanSame means y x) × AlwaysGives t ys)
+  AlwaysGives s (y ∷ ys) =
+      ((t : I) → steps s None t → ⊥) × ((x : A) (t : I) → steps s (Some x) t → (can x × MeanSame means y x) × AlwaysGives t ys)
 
 -- what is required of an iterator: every clone of x gives the same finite list of what may be encoded
-pub record GivesOneList {T I A : Type 0} (is_clone : T → T → Type 0) (gives : T → I → Type 0) (steps : I → Option A → I → Type 0) (can_next : I → Type 0) (left : I → Count) (can : A → Type 0) (means : A → Mode → Meaning → Type 0) (x : T) : Type 0 where
+pub record GivesOneList {T I A : Type 0} (is_clone : T → T → Type 0) (gives : T → I → Type 0) (steps : I → Option A → I → Type 0)
+    (can_next : I → Type 0) (left : I → Count) (can : A → Type 0) (means : A → Mode → Meaning → Type 0) (x : T) : Type 0 where
   pub items : List A
   pub all_can : All can items
   pub may_call : (t : T) (i : I) → is_clone x t → gives t i → can_next i × IsFinite (left i)
@@ -94,7 +100,8 @@ module _ {I A : Type 0} (steps : I → Option A → I → Type 0) (can : A → T
       record {
         rest = f.rest;
         gives_rest = f.gives_rest;
-        refused = λ e r. elim r [ inl now ↦ inl (same (Err e) now) | inr later ↦ inr (later.0, same (Ok later.0) later.1, f.refused e later.2) ];
+        refused = λ e r. elim r
+            [ inl now ↦ inl (same (Err e) now) | inr later ↦ inr (later.0, same (Ok later.0) later.1, f.refused e later.2) ];
         whole = λ none z r. (r.0, r.1, same (Ok r.0) r.2, f.whole none r.1 r.3, r.4);
       }
 
@@ -103,7 +110,9 @@ module _ {I A : Type 0} (steps : I → Option A → I → Type 0) (can : A → T
   none_left t u [] h s = refl
   none_left t u (y ∷ ys) h s = absurd (h.0 u s)
 
-module _ {T I A : Type 0} {is_clone : T → T → Type 0} {gives : T → I → Type 0} {steps : I → Option A → I → Type 0} {can_next : I → Type 0} {left : I → Count} {can : A → Type 0} {means : A → Mode → Meaning → Type 0} {x : T} (one : GivesOneList is_clone gives steps can_next left can means x) (mode : Mode) where
+module _ {T I A : Type 0} {is_clone : T → T → Type 0} {gives : T → I → Type 0} {steps : I → Option A → I → Type 0} {can_next : I → Type 0}
+    {left : I → Count} {can : A → Type 0} {means : A → Mode → Meaning → Type 0} {x : T}
+    (one : GivesOneList is_clone gives steps can_next left can means x) (mode : Mode) where
   -- whatever a run means, the list means
   pub as_listed : (m : Meaning) → RunsMean is_clone gives steps (λ v. means v mode) x m → EachOf (λ v. means v mode) one.items m
   as_listed (Ok z) (xs, lists, each) =

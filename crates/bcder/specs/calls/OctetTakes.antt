@@ -28,7 +28,8 @@ pub record TakesNextOctet {E : Type 0} (c : Reading) (r : Result (Option ℕ) E)
 pub record TakesOctet {X : Type 0} (c : Reading) (r : Result ℕ (DecodeError X)) (d : Reading) : Type 0 where
   pub taken : IfOk r (λ b. c.stream.rest ≡ b ∷ d.stream.rest)
   pub owed : OnOk r (Falls c.owed 1 d.owed)
-  pub refused : IfErr r (λ e. MatchCause (cause_of e) (Grew c.stream.faults d.stream.faults) ((d.stream.faults ≡ c.stream.faults) × (c.stream.rest ≡ []) × IsRefusal e) ⊥)
+  pub refused : IfErr r (λ e. MatchCause (cause_of e) (Grew c.stream.faults d.stream.faults)
+      ((d.stream.faults ≡ c.stream.faults) × (c.stream.rest ≡ []) × IsRefusal e) ⊥)
   pub leaves : LeavesContent c r d
 
 -- n octets were passed, or all that come if these are fewer; or the source failed

@@ -130,7 +130,8 @@ module _ {S T X : Type 0} (stream : S → Stream) (c : Both (MutBor (Primitive S
 -- for content of either form: that of a constructed value is refused, and left as it is
 module _ {S T X : Type 0} (stream : S → Stream) (c : Both (MutBor (Content S)) (MutBor (Content S))) where
   abbrev pub ReadContentBy : (List ℕ → T → Type 0) → (List ℕ → DecodeError X → Type 0) → Result T (DecodeError X) → Type 0
-  ReadContentBy Means Refuses r = (content_before stream c).kind ≡ Octets → Reads Means Refuses (content_before stream c) r (content_after stream c)
+  ReadContentBy Means Refuses r = (content_before stream c).kind ≡ Octets
+      → Reads Means Refuses (content_before stream c) r (content_after stream c)
 
   abbrev pub ReadContent : (List ℕ → T → Type 0) → Result T (DecodeError X) → Type 0
   ReadContent Means r = ReadContentBy Means (MeanNothing Means) r

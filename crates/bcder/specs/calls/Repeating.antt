@@ -68,7 +68,8 @@ module _ {F C T E : Type 0} (view : C → Reading) (step : F → MutBor C → An
     pub answered : AnswersTurn before turn a after
     pub left : after.content ≡ d
 
-module _ {F C E : Type 0} (why : E → Cause ContentError) (view : C → Reading) (step : F → MutBor C → Answer (Unit {0}) E → MutBor C → F → Type 0) where
+module _ {F C E : Type 0} (why : E → Cause ContentError) (view : C → Reading)
+    (step : F → MutBor C → Answer (Unit {0}) E → MutBor C → F → Type 0) where
   -- how the calls of the closure f over content c ended, with the result r and with d left
   pub data Repeats (f : F) (c : Reading) (r : Result (Unit {0}) E) (d : Reading) : Type 0 where
     -- the last call returned `None`
@@ -76,11 +77,14 @@ module _ {F C E : Type 0} (why : E → Cause ContentError) (view : C → Reading
     -- the last call refused, with this error
     refused : (e : E) → r ≡ Err e → LastAnswers view step f c (Err e) d → Repeats f c r d
     -- the last call returned `Some`, and had taken nothing
-    stalled : (e : E) → r ≡ Err e → IsOfContent (why e) → (l : LastAnswers view step f c (Ok (Some tt)) d) → TookNothing l.before.content d → Repeats f c r d
+    stalled : (e : E) → r ≡ Err e → IsOfContent (why e) → (l : LastAnswers view step f c (Ok (Some tt)) d)
+        → TookNothing l.before.content d → Repeats f c r d
     -- 2^64 - 1 calls returned `Some`
-    endless : (e : E) → r ≡ Err e → IsOfContent (why e) → (gifts : List (Gift C (Unit {0}))) → length gifts ≡ 2 ^ 64 - 1 → (after : Stage F) → FoldsTo (GoesOn view step) (record { closure = f; content = c }) gifts after → after.content ≡ d → Repeats f c r d
+    endless : (e : E) → r ≡ Err e → IsOfContent (why e) → (gifts : List (Gift C (Unit {0}))) → length gifts ≡ 2 ^ 64 - 1 → (after : Stage F)
+        → FoldsTo (GoesOn view step) (record { closure = f; content = c }) gifts after → after.content ≡ d → Repeats f c r d
 
-module _ {F C T E : Type 0} (why : E → Cause ContentError) (view : C → Reading) (step : F → MutBor C → Answer T E → MutBor C → F → Type 0) where
+module _ {F C T E : Type 0} (why : E → Cause ContentError) (view : C → Reading)
+    (step : F → MutBor C → Answer T E → MutBor C → F → Type 0) where
   -- how the calls of the closure f over content c ended, if what they return is collected, with the result r and with d left
   pub data Collects (f : F) (c : Reading) (r : Result (Vec T Global) E) (d : Reading) : Type 0 where
     -- the last call returned `None`; the vector holds what those before it returned
@@ -88,23 +92,35 @@ module _ {F C T E : Type 0} (why : E → Cause ContentError) (view : C → Readi
     -- the last call refused, with this error
     not_answered : (e : E) → r ≡ Err e → LastAnswers view step f c (Err e) d → Collects f c r d
     -- the last call returned `Some`, and had taken nothing
-    not_advanced : (e : E) → r ≡ Err e → IsOfContent (why e) → (x : T) → (l : LastAnswers view step f c (Ok (Some x)) d) → TookNothing l.before.content d → Collects f c r d
+    not_advanced : (e : E) → r ≡ Err e → IsOfContent (why e) → (x : T) → (l : LastAnswers view step f c (Ok (Some x)) d)
+        → TookNothing l.before.content d → Collects f c r d
     -- the last call returned `Some` and had taken something, and memory ran out for its value
-    not_kept : (e : E) → r ≡ Err e → why e ≡ of_memory → (x : T) → (l : LastAnswers view step f c (Ok (Some x)) d) → (TookNothing l.before.content d → ⊥) → Collects f c r d
+    not_kept : (e : E) → r ≡ Err e → why e ≡ of_memory → (x : T) → (l : LastAnswers view step f c (Ok (Some x)) d)
+        → (TookNothing l.before.content d → ⊥) → Collects f c r d
 
 -- the closure may be called, in any state, on all that this content can become
 abbrev pub MayRepeat : {S F : Type 0} → (S → Stream) → MutBor (Constructed S) → (F → MutBor (Constructed S) → Type 0) → Type 0
-MayRepeat {S} {F} stream c pre = (f : F) (p : MutBor (Constructed S)) → Moves (of_constructed stream c.now) (of_constructed stream p.now) → pre f p
+MayRepeat {S} {F} stream c pre = (f : F) (p : MutBor (Constructed S))
+    → Moves (of_constructed stream c.now) (of_constructed stream p.now) → pre f p
 
 -- whatever the closure leaves is reached by lawful steps from the content that it got
-abbrev pub RepeatsLawfully : {S F T E : Type 0} → (S → Stream) → MutBor (Constructed S) → (F → MutBor (Constructed S) → Answer T E → MutBor (Constructed S) → F → Type 0) → Type 0
-RepeatsLawfully {S} {F} {T} {E} stream c step = (f : F) (p : MutBor (Constructed S)) (a : Answer T E) (q : MutBor (Constructed S)) (g : F) → Moves (of_constructed stream c.now) (of_constructed stream p.now) → step f p a q g → Moves (of_constructed stream p.now) (of_constructed stream q.now)
+abbrev pub RepeatsLawfully : {S F T E : Type 0} → (S → Stream) → MutBor (Constructed S)
+    → (F → MutBor (Constructed S) → Answer T E → MutBor (Constructed S) → F → Type 0) → Type 0
+RepeatsLawfully {S} {F} {T} {E} stream c step = (f : F) (p : MutBor (Constructed S)) (a : Answer T E) (q : MutBor (Constructed S)) (g : F)
+    → Moves (of_constructed stream c.now) (of_constructed stream p.now) → step f p a q g
+    → Moves (of_constructed stream p.now) (of_constructed stream q.now)
 
 -- the closure f was called over content until it returned `None`, refused, or took nothing
-abbrev pub Repeated : {S F X : Type 0} → (S → Stream) → Both (MutBor (Constructed S)) (MutBor (Constructed S)) → (F → MutBor (Constructed S) → Answer (Unit {0}) (DecodeError X) → MutBor (Constructed S) → F → Type 0) → F → Result (Unit {0}) (DecodeError X) → Type 0
-Repeated stream c step f r = Repeats cause_of (of_constructed stream) step f (of_constructed stream c.entry.now) r (of_constructed stream c.exit.now)
+abbrev pub Repeated : {S F X : Type 0} → (S → Stream) → Both (MutBor (Constructed S)) (MutBor (Constructed S))
+    → (F → MutBor (Constructed S) → Answer (Unit {0}) (DecodeError X) → MutBor (Constructed S) → F → Type 0) → F
+    → Result (Unit {0}) (DecodeError X) → Type 0
+Repeated stream c step f r =
+    Repeats cause_of (of_constructed stream) step f (of_constructed stream c.entry.now) r (of_constructed stream c.exit.now)
 
 -- the closure f was called over content, and what it returned collected, until it returned `None`, refused, took nothing,
 -- or memory ran out for what it returned
-abbrev pub Collected : {S F T X : Type 0} → (S → Stream) → Both (MutBor (Constructed S)) (MutBor (Constructed S)) → (F → MutBor (Constructed S) → Answer T (DecodeError X) → MutBor (Constructed S) → F → Type 0) → F → Result (Vec T Global) (DecodeError X) → Type 0
-Collected stream c step f r = Collects cause_of (of_constructed stream) step f (of_constructed stream c.entry.now) r (of_constructed stream c.exit.now)
+abbrev pub Collected : {S F T X : Type 0} → (S → Stream) → Both (MutBor (Constructed S)) (MutBor (Constructed S))
+    → (F → MutBor (Constructed S) → Answer T (DecodeError X) → MutBor (Constructed S) → F → Type 0) → F
+    → Result (Vec T Global) (DecodeError X) → Type 0
+Collected stream c step f r =
+    Collects cause_of (of_constructed stream) step f (of_constructed stream c.entry.now) r (of_constructed stream c.exit.now)

@@ -1,6 +1,7 @@
 -- Passing over values with a closure that is called at each: the calls that it gets, and what such a call promises.
 use Rattle.std.specs.Borrow.{MutBor}
-use Rattle.std.specs.Prelude.{◌≡◌, ◌⊎◌, ℕ, ◌+◌, ◌*◌, ◌<◌, ◌≤◌, Bool, true, List, [], ◌∷◌, ◌++◌, length, Option, Result, Ok, Err, IsOk, IsOkAnd, IsErrAnd, IfOk, IfErr, OnOk, OnErr, IfSome, IfNone, IsTrue, is_some, is_none}
+use Rattle.std.specs.Prelude.{◌≡◌, ◌⊎◌, ℕ, ◌+◌, ◌*◌, ◌<◌, ◌≤◌, Bool, true, List, [], ◌∷◌, ◌++◌, length, Option, Result, Ok, Err, IsOk}
+use Rattle.std.specs.Prelude.{IsOkAnd, IsErrAnd, IfOk, IfErr, OnOk, OnErr, IfSome, IfNone, IsTrue, is_some, is_none}
 use Rattle.std.specs.List.{FoldsTo}
 use denote.Triple.Both.{Both}
 use Rattle.bcder.specs.declared.mode.Mode.{Mode}
@@ -78,16 +79,20 @@ pub record SkipsValue {F E : Type 0} (step : Steps F E) (c : Reading) (f g : F) 
   pub were : WereCalls c (preorder passes.tree 0) d
 
 -- why no value of c was passed, after calls that turned f into g, with error e; `why` gives its cause
-pub data RefusesSkip {F X : Type 0} (why : X → Cause ContentError) (step : Steps F ContentError) (c : Reading) (f : F) (e : X) (g : F) (d : Reading) : Type 0 where
+pub data RefusesSkip {F X : Type 0} (why : X → Cause ContentError) (step : Steps F ContentError) (c : Reading) (f : F) (e : X) (g : F)
+    (d : Reading) : Type 0 where
   -- no value comes next, an earlier one was refused, or the source failed
   by_content : (calls : List Heading) → Called step f calls g → WereCalls c calls d → RefusesWalk why c e d → RefusesSkip why step c f e g d
   -- the closure refused a heading
-  by_closure : (calls : List Heading) (h : Heading) (q : F) (x : ContentError) → Called step f calls q → Refused step q h x g → WereCalls c (calls ++ h ∷ []) d → why e ≡ of_content x → RefusesSkip why step c f e g d
+  by_closure : (calls : List Heading) (h : Heading) (q : F) (x : ContentError) → Called step f calls q → Refused step q h x g
+      → WereCalls c (calls ++ h ∷ []) d → why e ≡ of_content x → RefusesSkip why step c f e g d
   -- memory ran out for a constructed value at a depth of four or more
-  by_memory : (calls : List Heading) (h : Heading) → Called step f (calls ++ h ∷ []) g → WereCalls c (calls ++ h ∷ []) d → h.constructed ≡ true → 4 ≤ h.depth → why e ≡ of_memory → RefusesSkip why step c f e g d
+  by_memory : (calls : List Heading) (h : Heading) → Called step f (calls ++ h ∷ []) g → WereCalls c (calls ++ h ∷ []) d
+      → h.constructed ≡ true → 4 ≤ h.depth → why e ≡ of_memory → RefusesSkip why step c f e g d
 
 -- a call passed over the next value, or found the end, or refused; `why` gives the cause of its error
-pub record SkippedBy {F T X : Type 0} (why : X → Cause ContentError) (step : Steps F ContentError) (c : Reading) (f : F) (r : Result (Option T) X) (g : F) (d : Reading) : Type 0 where
+pub record SkippedBy {F T X : Type 0} (why : X → Cause ContentError) (step : Steps F ContentError) (c : Reading) (f : F)
+    (r : Result (Option T) X) (g : F) (d : Reading) : Type 0 where
   -- Some: the one value that comes next was passed, and the closure was called at its headings
   pub value : IfOk r (λ o. IfSome o (λ _. SkipsValue step c f g d))
   -- None: content was at its end, whose marker, if any, was taken, and the closure wasn't called
@@ -105,7 +110,8 @@ pub record SkippedBy {F T X : Type 0} (why : X → Cause ContentError) (step : S
 
 -- f returns Ok at each call along the headings
 abbrev pub AnswersAll : {F E : Type 0} → Steps F E → F → List Heading → Type 0
-AnswersAll {F} {E} step f hs = (calls more : List Heading) (h : Heading) (q g : F) (x : E) → hs ≡ calls ++ h ∷ more → Called step f calls q → Refused step q h x g → ⊥
+AnswersAll {F} {E} step f hs = (calls more : List Heading) (h : Heading) (q g : F) (x : E) → hs ≡ calls ++ h ∷ more → Called step f calls q
+    → Refused step q h x g → ⊥
 
 -- no constructed value is at a depth of four or more
 abbrev pub IsShallow : List Heading → Type 0
@@ -116,12 +122,15 @@ abbrev pub FindsMemory : {T X : Type 0} → (X → Cause ContentError) → List 
 FindsMemory why hs r = IsShallow hs ⊎ (IsErrAnd r (λ e. why e ≡ of_memory) → ⊥)
 
 -- what is returned if a value comes next, and what at the end
-pub record AnswersSkip {F T X : Type 0} (why : X → Cause ContentError) (step : Steps F ContentError) (c : Reading) (f : F) (r : Result (Option T) X) (d : Reading) : Type 0 where
-  pub found : (t : Tree) (w after : List ℕ) → HasValue c t w after → AnswersAll step f (preorder t 0) → FindsMemory why (preorder t 0) r → IsOkAnd r (λ o. IsTrue (is_some o)) × (d.stream.rest ≡ after)
+pub record AnswersSkip {F T X : Type 0} (why : X → Cause ContentError) (step : Steps F ContentError) (c : Reading) (f : F)
+    (r : Result (Option T) X) (d : Reading) : Type 0 where
+  pub found : (t : Tree) (w after : List ℕ) → HasValue c t w after → AnswersAll step f (preorder t 0) → FindsMemory why (preorder t 0) r
+      → IsOkAnd r (λ o. IsTrue (is_some o)) × (d.stream.rest ≡ after)
   pub ended : (after : List ℕ) → EndsBefore c after → IsOkAnd r (λ o. IsTrue (is_none o))
 
 -- a call passed over the next value, which had to be there, or refused
-pub record SkippedValueBy {F T S : Type 0} (step : Steps F ContentError) (c : Reading) (f : F) (r : Result T (DecodeError S)) (g : F) (d : Reading) : Type 0 where
+pub record SkippedValueBy {F T S : Type 0} (step : Steps F ContentError) (c : Reading) (f : F) (r : Result T (DecodeError S)) (g : F)
+    (d : Reading) : Type 0 where
   pub value : OnOk r (SkipsValue step c f g d)
   pub no_fault : OnOk r (d.stream.faults ≡ c.stream.faults)
   -- no value was there, the closure wasn't called, and content stays usable; or content has failed
@@ -130,8 +139,10 @@ pub record SkippedValueBy {F T S : Type 0} (step : Steps F ContentError) (c : Re
   pub marked : d.marked ≡ c.marked
 
 -- what is returned if a value comes next
-pub record AnswersValue {F T X : Type 0} (why : X → Cause ContentError) (step : Steps F ContentError) (c : Reading) (f : F) (r : Result T X) (d : Reading) : Type 0 where
-  pub found : (t : Tree) (w after : List ℕ) → HasValue c t w after → AnswersAll step f (preorder t 0) → FindsMemory why (preorder t 0) r → IsOkAnd r (λ _. d.stream.rest ≡ after)
+pub record AnswersValue {F T X : Type 0} (why : X → Cause ContentError) (step : Steps F ContentError) (c : Reading) (f : F) (r : Result T X)
+    (d : Reading) : Type 0 where
+  pub found : (t : Tree) (w after : List ℕ) → HasValue c t w after → AnswersAll step f (preorder t 0) → FindsMemory why (preorder t 0) r
+      → IsOkAnd r (λ _. d.stream.rest ≡ after)
 
 -- ---- without a closure
 
@@ -160,7 +171,8 @@ FoundMemory r = IsErrAnd r (λ e. cause_of e ≡ of_memory) → ⊥
 
 -- ---- of parameters, from entry to exit
 
-module _ {S F : Type 0} (stream : S → Stream) (step : Steps F ContentError) (c : Both (MutBor (Constructed S)) (MutBor (Constructed S))) (op : Both (MutBor F) (MutBor F)) where
+module _ {S F : Type 0} (stream : S → Stream) (step : Steps F ContentError) (c : Both (MutBor (Constructed S)) (MutBor (Constructed S)))
+    (op : Both (MutBor F) (MutBor F)) where
   -- what a call that passes over the next value promises about content, the closure and its result
   abbrev pub SkippedNext : {T X : Type 0} → Result (Option T) (DecodeError X) → Type 0
   SkippedNext r = SkippedBy cause_of step (of_constructed stream c.entry.now) op.entry.now r op.exit.now (of_constructed stream c.exit.now)
@@ -168,7 +180,8 @@ module _ {S F : Type 0} (stream : S → Stream) (step : Steps F ContentError) (c
   -- unless the source failed, Some is returned exactly if a value comes next at whose headings the closure returns Ok,
   -- and None exactly at the end
   abbrev pub ExactlySkipped : {T X : Type 0} → Result (Option T) (DecodeError X) → Type 0
-  ExactlySkipped r = (Grew (of_constructed stream c.entry.now).stream.faults (of_constructed stream c.exit.now).stream.faults → ⊥) → AnswersSkip cause_of step (of_constructed stream c.entry.now) op.entry.now r (of_constructed stream c.exit.now)
+  ExactlySkipped r = (Grew (of_constructed stream c.entry.now).stream.faults (of_constructed stream c.exit.now).stream.faults → ⊥)
+      → AnswersSkip cause_of step (of_constructed stream c.entry.now) op.entry.now r (of_constructed stream c.exit.now)
 
   -- what a call promises that passes over a value, which has to be there
   abbrev pub SkippedValue : {T X : Type 0} → Result T (DecodeError X) → Type 0
@@ -176,7 +189,8 @@ module _ {S F : Type 0} (stream : S → Stream) (step : Steps F ContentError) (c
 
   -- unless the source failed, Ok is returned exactly if a value comes next at whose headings the closure returns Ok
   abbrev pub ExactlyValue : {T X : Type 0} → Result T (DecodeError X) → Type 0
-  ExactlyValue r = (Grew (of_constructed stream c.entry.now).stream.faults (of_constructed stream c.exit.now).stream.faults → ⊥) → AnswersValue cause_of step (of_constructed stream c.entry.now) op.entry.now r (of_constructed stream c.exit.now)
+  ExactlyValue r = (Grew (of_constructed stream c.entry.now).stream.faults (of_constructed stream c.exit.now).stream.faults → ⊥)
+      → AnswersValue cause_of step (of_constructed stream c.entry.now) op.entry.now r (of_constructed stream c.exit.now)
 
 module _ {S : Type 0} (stream : S → Stream) (c : Both (MutBor (Constructed S)) (MutBor (Constructed S))) where
   abbrev pub SkippedOne : {T X : Type 0} → Result (Option T) (DecodeError X) → Type 0
@@ -187,4 +201,5 @@ module _ {S : Type 0} (stream : S → Stream) (c : Both (MutBor (Constructed S))
 
   -- unless the source failed or memory ran out, Ok is returned exactly if values go on up to the end
   abbrev pub ExactlyAll : {T X : Type 0} → Result T (DecodeError X) → Type 0
-  ExactlyAll r = (Grew (of_constructed stream c.entry.now).stream.faults (of_constructed stream c.exit.now).stream.faults → ⊥) → FoundMemory r → (of_constructed stream c.entry.now).state ≡ Open → HasValues (of_constructed stream c.entry.now) → IsOk r
+  ExactlyAll r = (Grew (of_constructed stream c.entry.now).stream.faults (of_constructed stream c.exit.now).stream.faults → ⊥)
+      → FoundMemory r → (of_constructed stream c.entry.now).state ≡ Open → HasValues (of_constructed stream c.entry.now) → IsOk r

@@ -10,7 +10,8 @@ use Rattle.bcder.specs.calls.Meaning.{Meaning, IsLawful}
 pub record SameMeaning {V : Type 0} (means : V → Mode → Meaning → Type 0) (v w : V) : Type 0 where
   pub same : (mode : Mode) (m : Meaning) → means v mode m → means w mode m
 
-pub either_means : {V : Type 0} (means : V → Mode → Meaning → Type 0) (v w : V) → (v ≡ w) ⊎ SameMeaning means v w → (mode : Mode) (m : Meaning) → means v mode m → means w mode m
+pub either_means : {V : Type 0} (means : V → Mode → Meaning → Type 0) (v w : V) → (v ≡ w) ⊎ SameMeaning means v w
+    → (mode : Mode) (m : Meaning) → means v mode m → means w mode m
 either_means means v w (inl is) mode m h = subst (λ x. means x mode m) is h
 either_means means v w (inr s) mode m h = s.same mode m h
 
@@ -31,7 +32,8 @@ module _ {F U V : Type 0} (g : Shared F (Bor U × Unit {0}) V) (f : F) where
 
   -- all that the closure gives for u means the same
   abbrev pub GivesOne : (V → Mode → Meaning → Type 0) → U → Type 0
-  GivesOne means u = (v w : V) (p q : Bor U) → p.now ≡ u → q.now ≡ u → g.post f (p, tt) v → g.post f (q, tt) w → (v ≡ w) ⊎ SameMeaning means v w
+  GivesOne means u = (v w : V) (p q : Bor U) → p.now ≡ u → q.now ≡ u → g.post f (p, tt) v → g.post f (q, tt) w
+      → (v ≡ w) ⊎ SameMeaning means v w
 
   -- what is required of a closure for u: it may be called, and gives one meaning, of something that may be encoded
   abbrev pub MayMap : (V → Type 0) → (V → Mode → Meaning → Type 0) → U → Type 0
@@ -50,11 +52,14 @@ module _ {F U V : Type 0} (g : Shared F (Bor U × Unit {0}) V) (f : F) where
     pub lacks : may_lack value mode
 
   -- whatever u means, each value that is given for it means
-  pub item_means : {can : V → Type 0} {means : V → Mode → Meaning → Type 0} {u : U} → MayMap can means u → {mode : Mode} {v : V} → Gives u v → (m : Meaning) → ItemMeans means mode u m → means v mode m
+  pub item_means : {can : V → Type 0} {means : V → Mode → Meaning → Type 0} {u : U} → MayMap can means u → {mode : Mode} {v : V} → Gives u v
+      → (m : Meaning) → ItemMeans means mode u m → means v mode m
   item_means {means = means} may {mode} {v} gives m p =
-      either_means means p.value v (may.2 p.value v p.given.shown gives.shown p.given.shows gives.shows p.given.met gives.met) mode m p.meant
+      either_means means p.value v
+      (may.2 p.value v p.given.shown gives.shown p.given.shows gives.shows p.given.met gives.met) mode m p.meant
 
-  pub item_lawful : {can : V → Type 0} {means : V → Mode → Meaning → Type 0} (mode : Mode) → ((v : V) → can v → IsLawful mode (means v mode)) → (u : U) → MayMap can means u → IsLawful mode (ItemMeans means mode u)
+  pub item_lawful : {can : V → Type 0} {means : V → Mode → Meaning → Type 0} (mode : Mode)
+      → ((v : V) → can v → IsLawful mode (means v mode)) → (u : U) → MayMap can means u → IsLawful mode (ItemMeans means mode u)
   item_lawful {means = means} mode lawful u may = record {
     one = record {
       same = λ m n p q.

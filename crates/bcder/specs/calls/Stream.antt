@@ -61,7 +61,13 @@ past (Some n) xs = record { octets = drop n xs; number = n - length xs + 1 }
 
 -- a source up to a limit
 abbrev pub limited : Option ℕ → Stream → Stream
-limited limit s = record { rest = cut limit s.rest; avail = capped limit s.avail; faults = s.faults; position = s.position; kept = past limit s.rest ∷ s.kept }
+limited limit s = record {
+  rest = cut limit s.rest;
+  avail = capped limit s.avail;
+  faults = s.faults;
+  position = s.position;
+  kept = past limit s.rest ∷ s.kept;
+}
 
 -- a limit that isn't larger than the old one, or removed
 abbrev pub IsNoLooser : Option ℕ → Option ℕ → Type 0
@@ -94,8 +100,20 @@ limit_left (Some m) n = Some (m - n)
 
 -- a source behind a borrow, whose name is kept
 abbrev pub borrowed : ℕ → Stream → Stream
-borrowed name s = record { rest = s.rest; avail = s.avail; faults = s.faults; position = s.position; kept = record { octets = []; number = name } ∷ s.kept }
+borrowed name s = record {
+  rest = s.rest;
+  avail = s.avail;
+  faults = s.faults;
+  position = s.position;
+  kept = record { octets = []; number = name } ∷ s.kept;
+}
 
 -- a view of a borrowed source that begins n octets into it
 abbrev pub ahead : ℕ → ℕ → Stream → Stream
-ahead name n s = record { rest = drop n s.rest; avail = s.avail - n; faults = s.faults; position = pos_after s.position n; kept = record { octets = s.rest; number = name } ∷ record { octets = []; number = n - length s.rest } ∷ s.kept }
+ahead name n s = record {
+  rest = drop n s.rest;
+  avail = s.avail - n;
+  faults = s.faults;
+  position = pos_after s.position n;
+  kept = record { octets = s.rest; number = name } ∷ record { octets = []; number = n - length s.rest } ∷ s.kept;
+}

@@ -5,7 +5,8 @@ use Rattle.bcder.specs.declared.mode.Mode.TheVariants.{Ber, Cer}
 use Rattle.bcder.specs.x690.Identifier.{Tag}
 use Rattle.bcder.specs.x690.OctetString.{octet_string_tag}
 use Rattle.bcder.specs.calls.StringOctets.{StringOctets, cut, octets_of}
-use Rattle.bcder.specs.calls.Meaning.{Encoded, Meaning, ContentsMeaning, ExactlyOctets, ValueMeans, primitive_encoded, primitive_meaning, constructed_meaning}
+use Rattle.bcder.specs.calls.Meaning.{Encoded, Meaning, ContentsMeaning, ExactlyOctets, ValueMeans}
+use Rattle.bcder.specs.calls.Meaning.{primitive_encoded, primitive_meaning, constructed_meaning}
 use Rattle.bcder.specs.calls.Joined.{join}
 use Rattle.bcder.specs.calls.Gathered.{KeptMeans}
 

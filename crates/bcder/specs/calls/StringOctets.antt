@@ -45,7 +45,8 @@ is_in_one_piece (cut kept ps) = is_no_part ps
 -- the string that a value means in a mode: in one piece, or cut into its segments, with encodings of the values that it is cut into
 abbrev pub IsStringOf : Mode → Tree → StringOctets → Type 0
 IsStringOf mode (primitive t contents) s = s ≡ whole contents
-IsStringOf mode (constructed t ts) s = (kept : Kept) × (kept.mode ≡ mode) × AreEncodings mode ts kept.octets × (s ≡ cut kept (segments_of ts))
+IsStringOf mode (constructed t ts) s =
+    (kept : Kept) × (kept.mode ≡ mode) × AreEncodings mode ts kept.octets × (s ≡ cut kept (segments_of ts))
 
 -- the value is an octet string in the mode, and s is what it means
 abbrev pub MeansString : Mode → Tree → StringOctets → Type 0

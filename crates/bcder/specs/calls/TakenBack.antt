@@ -41,7 +41,8 @@ module _ {X : Type 0} (Fails : Reading → DecodeError X → Reading → Type 0)
     -- each typed take of c returns x, and leaves `after`
     pub record TakesBack (x : T) (after : List ℕ) (c : Reading) : Type 0 where
       pub one : (r : Result T (DecodeError X)) (d : Reading) → TakesOneAs tag Means Refuses c r d → AnswersLeaving x after c r d
-      pub next : (r : Result (Option T) (DecodeError X)) (d : Reading) → TakesNextAs tag Means Refuses c r d → AnswersLeaving (Some x) after c r d
+      pub next : (r : Result (Option T) (DecodeError X)) (d : Reading) → TakesNextAs tag Means Refuses c r d
+          → AnswersLeaving (Some x) after c r d
       pub passed : (r : Result T (DecodeError X)) (d : Reading) → PassesNextAs tag Means Refuses c r d → AnswersLeaving x after c r d
 
     -- one thing is written for x, an encoding; wherever it comes next in content in the mode, x is taken back

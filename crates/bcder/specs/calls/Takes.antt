@@ -1,5 +1,6 @@
 -- What a call that takes a value requires of its closure, and what it returns and leaves.
-use Rattle.std.specs.Prelude.{◌≡◌, ◌⊎◌, ◌+◌, ◌≤◌, Bool, true, false, length, Option, Some, None, Result, IfOk, IfErr, IfSome, IfNone, OnOk, OnErr}
+use Rattle.std.specs.Prelude.{◌≡◌, ◌⊎◌, ◌+◌, ◌≤◌, Bool, true, false, length, Option, Some, None}
+use Rattle.std.specs.Prelude.{Result, IfOk, IfErr, IfSome, IfNone, OnOk, OnErr}
 use Rattle.std.specs.Borrow.{MutBor}
 use denote.Triple.Both.{Both}
 use Rattle.bcder.specs.declared.decode.content.Primitive.{Primitive}
@@ -30,7 +31,8 @@ abbrev pub HasRefusedForm : Option Bool → Asked → Reading → Type 0
 HasRefusedForm None asked c = ⊥
 HasRefusedForm (Some f) asked c = HasForm f asked c
 
-module _ {C T X : Type 0} (view : C → Reading) (post : Tag → MutBor C → Result T (DecodeError X) → MutBor C → Type 0) (form : Option Bool) (asked : Asked) where
+module _ {C T X : Type 0} (view : C → Reading) (post : Tag → MutBor C → Result T (DecodeError X) → MutBor C → Type 0)
+    (form : Option Bool) (asked : Asked) where
   -- why no value was taken from c, with error e: no asked header was passed, the value has the refused form, or its content was refused
   pub data RefusesTake (c : Reading) (e : DecodeError X) (d : Reading) : Type 0 where
     by_header : RefusesHeader cause_of asked c e d → d.marked ≡ c.marked → RefusesTake c e d
@@ -60,41 +62,50 @@ module _ {S : Type 0} (stream : S → Stream) where
   abbrev pub CallableOnOctets : MutBor (Constructed S) → Asked → (Tag → MutBor (Primitive S) → Type 0) → Type 0
   CallableOnOctets c asked pre = MayBeCalled (of_primitive stream) (IsInside asked (of_constructed stream c.now)) pre
 
-  abbrev pub LawfulOnOctets : {R : Type 0} → MutBor (Constructed S) → Asked → (Tag → MutBor (Primitive S) → R → MutBor (Primitive S) → Type 0) → Type 0
+  abbrev pub LawfulOnOctets : {R : Type 0} → MutBor (Constructed S) → Asked
+      → (Tag → MutBor (Primitive S) → R → MutBor (Primitive S) → Type 0) → Type 0
   LawfulOnOctets c asked post = IsLawfulAtAny (of_primitive stream) (IsInside asked (of_constructed stream c.now)) post
 
   -- the closure may be called on the values inside a constructed value that it can get, and moves them
   abbrev pub CallableOnValues : MutBor (Constructed S) → Asked → (Tag → MutBor (Constructed S) → Type 0) → Type 0
   CallableOnValues c asked pre = MayBeCalled (of_constructed stream) (IsInside asked (of_constructed stream c.now)) pre
 
-  abbrev pub LawfulOnValues : {R : Type 0} → MutBor (Constructed S) → Asked → (Tag → MutBor (Constructed S) → R → MutBor (Constructed S) → Type 0) → Type 0
+  abbrev pub LawfulOnValues : {R : Type 0} → MutBor (Constructed S) → Asked
+      → (Tag → MutBor (Constructed S) → R → MutBor (Constructed S) → Type 0) → Type 0
   LawfulOnValues c asked post = IsLawfulAtAny (of_constructed stream) (IsInside asked (of_constructed stream c.now)) post
 
   -- the closure may be called on the content of either form that it can get, and moves it
   abbrev pub CallableOnContent : MutBor (Constructed S) → Asked → (Tag → MutBor (Content S) → Type 0) → Type 0
   CallableOnContent c asked pre = MayBeCalled (of_content stream) (IsInside asked (of_constructed stream c.now)) pre
 
-  abbrev pub LawfulOnContent : {R : Type 0} → MutBor (Constructed S) → Asked → (Tag → MutBor (Content S) → R → MutBor (Content S) → Type 0) → Type 0
+  abbrev pub LawfulOnContent : {R : Type 0} → MutBor (Constructed S) → Asked
+      → (Tag → MutBor (Content S) → R → MutBor (Content S) → Type 0) → Type 0
   LawfulOnContent c asked post = IsLawfulAtAny (of_content stream) (IsInside asked (of_constructed stream c.now)) post
 
   module _ {T X : Type 0} (c : Both (MutBor (Constructed S)) (MutBor (Constructed S))) (asked : Asked) where
     -- the next primitive value was taken, if there is one; a constructed one is refused
-    abbrev pub TookNextOctets : (Tag → MutBor (Primitive S) → Result T (DecodeError X) → MutBor (Primitive S) → Type 0) → Result (Option T) (DecodeError X) → Type 0
+    abbrev pub TookNextOctets : (Tag → MutBor (Primitive S) → Result T (DecodeError X) → MutBor (Primitive S) → Type 0)
+        → Result (Option T) (DecodeError X) → Type 0
     TookNextOctets post r = TakesNext (of_primitive stream) post (Some true) asked (before stream c) r (after stream c)
 
-    abbrev pub TookOctets : (Tag → MutBor (Primitive S) → Result T (DecodeError X) → MutBor (Primitive S) → Type 0) → Result T (DecodeError X) → Type 0
+    abbrev pub TookOctets : (Tag → MutBor (Primitive S) → Result T (DecodeError X) → MutBor (Primitive S) → Type 0)
+        → Result T (DecodeError X) → Type 0
     TookOctets post r = Takes (of_primitive stream) post (Some true) asked (before stream c) r (after stream c)
 
     -- the next constructed value was taken, if there is one; a primitive one is refused
-    abbrev pub TookNextValues : (Tag → MutBor (Constructed S) → Result T (DecodeError X) → MutBor (Constructed S) → Type 0) → Result (Option T) (DecodeError X) → Type 0
+    abbrev pub TookNextValues : (Tag → MutBor (Constructed S) → Result T (DecodeError X) → MutBor (Constructed S) → Type 0)
+        → Result (Option T) (DecodeError X) → Type 0
     TookNextValues post r = TakesNext (of_constructed stream) post (Some false) asked (before stream c) r (after stream c)
 
-    abbrev pub TookValues : (Tag → MutBor (Constructed S) → Result T (DecodeError X) → MutBor (Constructed S) → Type 0) → Result T (DecodeError X) → Type 0
+    abbrev pub TookValues : (Tag → MutBor (Constructed S) → Result T (DecodeError X) → MutBor (Constructed S) → Type 0)
+        → Result T (DecodeError X) → Type 0
     TookValues post r = Takes (of_constructed stream) post (Some false) asked (before stream c) r (after stream c)
 
     -- the next value of either form was taken, if there is one
-    abbrev pub TookNextContent : (Tag → MutBor (Content S) → Result T (DecodeError X) → MutBor (Content S) → Type 0) → Result (Option T) (DecodeError X) → Type 0
+    abbrev pub TookNextContent : (Tag → MutBor (Content S) → Result T (DecodeError X) → MutBor (Content S) → Type 0)
+        → Result (Option T) (DecodeError X) → Type 0
     TookNextContent post r = TakesNext (of_content stream) post None asked (before stream c) r (after stream c)
 
-    abbrev pub TookContent : (Tag → MutBor (Content S) → Result T (DecodeError X) → MutBor (Content S) → Type 0) → Result T (DecodeError X) → Type 0
+    abbrev pub TookContent : (Tag → MutBor (Content S) → Result T (DecodeError X) → MutBor (Content S) → Type 0)
+        → Result T (DecodeError X) → Type 0
     TookContent post r = Takes (of_content stream) post None asked (before stream c) r (after stream c)

@@ -71,7 +71,8 @@ module _ {T X : Type 0} (tag : Tag) (Means : List ℕ → T → Type 0) (Refuses
 
 -- ---- of a parameter, from entry to exit
 
-module _ {S T X : Type 0} (stream : S → Stream) (c : Both (MutBor (Constructed S)) (MutBor (Constructed S))) (tag : Tag) (Means : List ℕ → T → Type 0) where
+module _ {S T X : Type 0} (stream : S → Stream) (c : Both (MutBor (Constructed S)) (MutBor (Constructed S))) (tag : Tag)
+    (Means : List ℕ → T → Type 0) where
   module _ (Refuses : List ℕ → DecodeError X → Type 0) where
     abbrev pub TookNextBy : Result (Option T) (DecodeError X) → Type 0
     TookNextBy r = TakesNextAs tag Means Refuses (before stream c) r (after stream c)

@@ -140,7 +140,8 @@ module _ {T : Type 0} (tag : Tag) (Means : Tree → T → Type 0) where
 -- ---- of a parameter, from entry to exit; what a value means may depend on the mode
 
 -- content was read, whatever the tag of its value
-pub record ReadsAny {T X : Type 0} (Means : Mode → Tree → T → Type 0) (c : Reading) (r : Result T (DecodeError X)) (d : Reading) : Type 0 where
+pub record ReadsAny {T X : Type 0} (Means : Mode → Tree → T → Type 0) (c : Reading) (r : Result T (DecodeError X))
+    (d : Reading) : Type 0 where
   pub at_tag : (tag : Tag) → ReadsContent tag (Means c.mode) c r d
 
 module _ {S T X : Type 0} (stream : S → Stream) where

@@ -7,7 +7,8 @@ use Rattle.bcder.specs.declared.decode.violation.Violation.{Violation}
 use Rattle.bcder.specs.declared.decode.violation.Violation.TheVariants as v
 use Rattle.bcder.specs.x690.Identifier.{end_of_contents}
 use Rattle.bcder.specs.x690.Length.{IsEndOfContents}
-use Rattle.bcder.specs.x690.Broken.{HasTag, HasLength, IsDefinite, EndsInHeader, TagNotFewest, TagTooLarge, LengthReserved, LengthTooLarge, LengthNotFewest}
+use Rattle.bcder.specs.x690.Broken.{HasTag, HasLength, IsDefinite, EndsInHeader, TagNotFewest, TagTooLarge}
+use Rattle.bcder.specs.x690.Broken.{LengthReserved, LengthTooLarge, LengthNotFewest}
 
 -- the text that says what is violated
 abbrev pub violation_text : Violation → List ℕ
@@ -38,6 +39,8 @@ pub data ViolatesFront (mode : Mode) (w : List ℕ) (r : Violation) : Type 0 whe
   reserved_length : r ≡ v.ReservedLength → HasTag (λ t f y. LengthReserved y) w → ViolatesFront mode w r
   length_too_large : r ≡ v.LengthTooLarge → HasTag (λ t f y. LengthTooLarge y) w → ViolatesFront mode w r
   length_not_fewest : r ≡ v.LengthNotFewest → HasTag (λ t f y. LengthNotFewest mode y) w → ViolatesFront mode w r
-  primitive_indefinite : r ≡ v.PrimitiveIndefinite → HasTag (λ t f y. (f ≡ false) × HasLength mode (λ n. n ≡ Indefinite) y) w → ViolatesFront mode w r
-  indefinite_in_der : r ≡ v.IndefiniteInDer → mode ≡ Der → HasTag (λ t f y. HasLength mode (λ n. n ≡ Indefinite) y) w → ViolatesFront mode w r
+  primitive_indefinite : r ≡ v.PrimitiveIndefinite → HasTag (λ t f y. (f ≡ false) × HasLength mode (λ n. n ≡ Indefinite) y) w
+      → ViolatesFront mode w r
+  indefinite_in_der : r ≡ v.IndefiniteInDer → mode ≡ Der → HasTag (λ t f y. HasLength mode (λ n. n ≡ Indefinite) y) w
+      → ViolatesFront mode w r
   definite_in_cer : r ≡ v.DefiniteInCer → mode ≡ Cer → HasTag (λ t f y. (f ≡ true) × HasLength mode IsDefinite y) w → ViolatesFront mode w r

@@ -1,6 +1,7 @@
 -- When the next value is there, and when all values up to the end of content are.
 use Rattle.std.specs.Borrow.{MutBor}
-use Rattle.std.specs.Prelude.{◌≡◌, ◌≢◌, ℕ, ◌<◌, List, [], ◌++◌, length, Option, Some, Result, IsOkAnd, IfOk, IfErr, OnOk, OnErr, IfSome, IfNone, IsTrue, is_some, is_none}
+use Rattle.std.specs.Prelude.{◌≡◌, ◌≢◌, ℕ, ◌<◌, List, [], ◌++◌, length, Option, Some, Result, IsOkAnd, IfOk}
+use Rattle.std.specs.Prelude.{IfErr, OnOk, OnErr, IfSome, IfNone, IsTrue, is_some, is_none}
 use denote.Triple.Both.{Both}
 use Rattle.bcder.specs.declared.mode.Mode.{Mode}
 use Rattle.bcder.specs.declared.decode.content.Kind.TheVariants as kind
@@ -14,7 +15,8 @@ use Rattle.bcder.specs.calls.Cause.{Cause, cause_of, of_source, IsOfContent}
 use Rattle.bcder.specs.declared.decode.error.DecodeError.{DecodeError}
 use Rattle.bcder.specs.declared.decode.content.Constructed.{Constructed}
 use Rattle.bcder.specs.calls.Views.{of_constructed}
-use Rattle.bcder.specs.calls.Content.{Reading, ContentForm, octets, values, Octets, Moves, HasMarker, EndsBefore, EndsAt, NotAtEnd, IsDone, any, NothingThere, Resembles, NamesFront}
+use Rattle.bcder.specs.calls.Content.{Reading, ContentForm, octets, values, Octets, Moves, HasMarker, EndsBefore, EndsAt}
+use Rattle.bcder.specs.calls.Content.{NotAtEnd, IsDone, any, NothingThere, Resembles, NamesFront}
 
 -- ---- one value
 
@@ -48,7 +50,8 @@ pub record AnswersNext {T E : Type 0} (c : Reading) (r : Result (Option T) E) (d
   pub ended : (after : List ℕ) → EndsBefore c after → IsOkAnd r (λ o. IsTrue (is_none o))
 
 -- a call passed over the next value, or found the end, or refused
-pub record PassedBy {T E : Type 0} (Refuses : Reading → E → Reading → Type 0) (c : Reading) (r : Result (Option T) E) (d : Reading) : Type 0 where
+pub record PassedBy {T E : Type 0} (Refuses : Reading → E → Reading → Type 0) (c : Reading) (r : Result (Option T) E)
+    (d : Reading) : Type 0 where
   -- Some: the one value that comes next was passed
   pub value : IfOk r (λ o. IfSome o (λ _. PassesValue c d))
   -- None: content was at its end, whose marker, if any, was taken
@@ -136,4 +139,5 @@ module _ {S : Type 0} (stream : S → Stream) (c : Both (MutBor (Constructed S))
 
   -- unless the source failed, Some is returned exactly if a value comes next, and None exactly at the end
   abbrev pub ExactlyNext : {T E : Type 0} → Result (Option T) E → Type 0
-  ExactlyNext r = (Between (λ c d. Grew c.stream.faults d.stream.faults) → ⊥) → AnswersNext (of_constructed stream c.entry.now) r (of_constructed stream c.exit.now)
+  ExactlyNext r = (Between (λ c d. Grew c.stream.faults d.stream.faults) → ⊥)
+      → AnswersNext (of_constructed stream c.entry.now) r (of_constructed stream c.exit.now)

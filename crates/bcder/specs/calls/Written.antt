@@ -34,5 +34,6 @@ AppendsConstructed tag mode old new (Ok u) = (w : List ℕ) × EncodesConstructe
 AppendsConstructed tag mode old new (Err e) = Keeps old new ⊎ ((w : List ℕ) × EncodesConstructed tag mode w × AppendsFront old new w)
 
 -- what the writing of a constructed value with the tag did to the target
-pub record WroteConstructed {W : Type 0} (contents : W → Option (List ℕ)) (target : Both (MutBor W) (MutBor W)) (tag : Tag) (mode : Mode) (r : Result (Unit {0}) WriteError) : Type 0 where
+pub record WroteConstructed {W : Type 0} (contents : W → Option (List ℕ)) (target : Both (MutBor W) (MutBor W)) (tag : Tag) (mode : Mode)
+    (r : Result (Unit {0}) WriteError) : Type 0 where
   pub done : AppendsConstructed tag mode (contents target.entry.now) (contents target.exit.now) r

@@ -58,7 +58,8 @@ HasSomeOctets w o = MatchOption o ⊥ (λ s. HasOctets w s)
 
 -- what P says was returned without a fault of the source, and `after` is left of the content, which stays open;
 -- or the source failed, or memory ran out
-pub record AnswersSuch {T X : Type 0} (P : T → Type 0) (after : List ℕ) (c : Reading) (r : Result T (DecodeError X)) (d : Reading) : Type 0 where
+pub record AnswersSuch {T X : Type 0} (P : T → Type 0) (after : List ℕ) (c : Reading) (r : Result T (DecodeError X))
+    (d : Reading) : Type 0 where
   pub value : IfOk r P
   pub rest : OnOk r (d.stream.rest ≡ after)
   pub stays : OnOk r (d.state ≡ Open)
@@ -70,8 +71,10 @@ pub record AnswersSuch {T X : Type 0} (P : T → Type 0) (after : List ℕ) (c :
 -- wherever what is meant comes next in content in the mode, a take of a string with the tag returns one with these octets,
 -- and leaves what follows
 pub record IsTakenString (X : Type 0) (t : Tag) (mode : Mode) (w : List ℕ) (e : Encoded) : Type 0 where
-  pub one : (c : Reading) (after : List ℕ) → StandsIn mode e.octets after c → (r : Result StringOctets (DecodeError X)) (d : Reading) → TakesOneTree t (MeansString c.mode) c r d → AnswersSuch (HasOctets w) after c r d
-  pub next : (c : Reading) (after : List ℕ) → StandsIn mode e.octets after c → (r : Result (Option StringOctets) (DecodeError X)) (d : Reading) → TakesNextTree t (MeansString c.mode) c r d → AnswersSuch (HasSomeOctets w) after c r d
+  pub one : (c : Reading) (after : List ℕ) → StandsIn mode e.octets after c → (r : Result StringOctets (DecodeError X)) (d : Reading)
+      → TakesOneTree t (MeansString c.mode) c r d → AnswersSuch (HasOctets w) after c r d
+  pub next : (c : Reading) (after : List ℕ) → StandsIn mode e.octets after c → (r : Result (Option StringOctets) (DecodeError X))
+      (d : Reading) → TakesNextTree t (MeansString c.mode) c r d → AnswersSuch (HasSomeOctets w) after c r d
 
 -- ---- written as it was read
 

@@ -1,5 +1,6 @@
 -- In CER and DER a value has one encoding, which is an encoding in BER too.
-use Rattle.std.proofs.Common.{◌≡◌, ◌≢◌, ℕ, suc, ◌+◌, ◌*◌, ◌^◌, ◌<◌, Bool, true, false, List, [], ◌∷◌, ◌++◌, length, refl, sym, ap, ap₂, ◌∙◌, arith, inl, inr}
+use Rattle.std.proofs.Common.{◌≡◌, ◌≢◌, ℕ, suc, ◌+◌, ◌*◌, ◌^◌, ◌<◌, Bool, true, false, List, [], ◌∷◌, ◌++◌}
+use Rattle.std.proofs.Common.{length, refl, sym, ap, ap₂, ◌∙◌, arith, inl, inr}
 use Rattle.std.proofs.lemmas.Nat.{same_from_place, mul-le}
 use Rattle.bcder.specs.declared.mode.Mode.{Mode}
 use Rattle.bcder.specs.declared.mode.Mode.TheVariants.{Ber, Cer, Der}
@@ -26,7 +27,8 @@ same_digits (a ∷ v) [] l h k e = absurd (omega arith)
 same_digits (a ∷ v) (b ∷ w) l h k e =
     let len : length v ≡ length w = omega arith in
     let place : a * 256 ^ length w + big_endian v ≡ b * 256 ^ length w + big_endian w = rw (← len) (rw (← len) at e) in
-    let both = same_from_place a (big_endian v) b (big_endian w) (256 ^ length w) (rw (← len) (big_endian-lt v (λ i. h (suc i)))) (big_endian-lt w (λ i. k (suc i))) place in
+    let both = same_from_place a (big_endian v) b (big_endian w) (256 ^ length w) (rw (← len) (big_endian-lt v (λ i. h (suc i))))
+    (big_endian-lt w (λ i. k (suc i))) place in
     ap₂ (λ x y. x ∷ y) both.0 (same_digits v w len (λ i. h (suc i)) (λ i. k (suc i)) both.1)
 
 shortest_once : (n : ℕ) (v w : List ℕ) → IsLengthForm n v → IsLengthForm n w → IsShortest n v → IsShortest n w → v ≡ w
@@ -52,23 +54,28 @@ one_telling : (mode : Mode) → mode ≢ Ber → (len : Length) (v w : List ℕ)
 one_telling mode h (Definite n) v w d e = one_form mode h n v w d e
 one_telling mode h Indefinite v w d e = d ∙ sym e
 
-one_header : (mode : Mode) → mode ≢ Ber → (t : Tag) (f : Bool) (len : Length) (v w : List ℕ) → IsHeader mode t f len v → IsHeader mode t f len w → v ≡ w
+one_header : (mode : Mode) → mode ≢ Ber → (t : Tag) (f : Bool) (len : Length) (v w : List ℕ) → IsHeader mode t f len v
+    → IsHeader mode t f len w → v ≡ w
 one_header mode h t f len v w d e = d.is ∙ ap (λ l. identifier t f ++ l) (one_telling mode h len _ _ d.tells e.tells) ∙ sym e.is
 
-definite_once : (mode : Mode) → mode ≢ Ber → (t : Tag) (f : Bool) (contents v w : List ℕ) → IsDefinite mode t f contents v → IsDefinite mode t f contents w → v ≡ w
+definite_once : (mode : Mode) → mode ≢ Ber → (t : Tag) (f : Bool) (contents v w : List ℕ) → IsDefinite mode t f contents v
+    → IsDefinite mode t f contents w → v ≡ w
 definite_once mode h t f contents v w d e =
     d.is ∙ ap (λ l. l ++ contents) (one_header mode h t f _ _ _ d.is_header e.is_header) ∙ sym e.is
 
-indefinite_once : (mode : Mode) → mode ≢ Ber → (t : Tag) (contents v w : List ℕ) → IsIndefinite mode t contents v → IsIndefinite mode t contents w → v ≡ w
+indefinite_once : (mode : Mode) → mode ≢ Ber → (t : Tag) (contents v w : List ℕ) → IsIndefinite mode t contents v
+    → IsIndefinite mode t contents w → v ≡ w
 indefinite_once mode h t contents v w d e =
-    d.is ∙ ap₂ (λ x y. x ++ (contents ++ y)) (one_header mode h t true _ _ _ d.is_header e.is_header) (one_marker mode h _ _ d.is_end e.is_end) ∙ sym e.is
+    d.is ∙ ap₂ (λ x y. x ++ (contents ++ y)) (one_header mode h t true _ _ _ d.is_header e.is_header)
+    (one_marker mode h _ _ d.is_end e.is_end) ∙ sym e.is
 
 not_both : (mode : Mode) → mode ≢ Ber → (n : ℕ) → may_have mode true (Definite n) ≡ true → may_have mode true Indefinite ≡ true → ⊥
 not_both Ber h n a b = h refl
 not_both Cer h n a b = cc
 not_both Der h n a b = cc
 
-framed_once : (mode : Mode) → mode ≢ Ber → (t : Tag) (contents v w : List ℕ) → IsFramed mode t contents v → IsFramed mode t contents w → v ≡ w
+framed_once : (mode : Mode) → mode ≢ Ber → (t : Tag) (contents v w : List ℕ) → IsFramed mode t contents v
+    → IsFramed mode t contents w → v ≡ w
 framed_once mode h t contents v w (inl d) (inl e) = definite_once mode h t true contents v w d e
 framed_once mode h t contents v w (inl d) (inr e) = absurd (not_both mode h (length contents) d.is_header.allowed e.is_header.allowed)
 framed_once mode h t contents v w (inr d) (inl e) = absurd (not_both mode h (length contents) e.is_header.allowed d.is_header.allowed)
@@ -97,7 +104,13 @@ allowed_in_ber mode false Indefinite e = e
 allowed_in_ber mode true len e = refl
 
 pub header_in_ber : (mode : Mode) (t : Tag) (f : Bool) (len : Length) (w : List ℕ) → IsHeader mode t f len w → IsHeader Ber t f len w
-header_in_ber mode t f len w d = record { is_value_tag = d.is_value_tag; allowed = allowed_in_ber mode f len d.allowed; length_octets = d.length_octets; tells = tells_in_ber mode len _ d.tells; is = d.is }
+header_in_ber mode t f len w d = record {
+  is_value_tag = d.is_value_tag;
+  allowed = allowed_in_ber mode f len d.allowed;
+  length_octets = d.length_octets;
+  tells = tells_in_ber mode len _ d.tells;
+  is = d.is;
+}
 
 definite_in_ber : (mode : Mode) (t : Tag) (f : Bool) (contents w : List ℕ) → IsDefinite mode t f contents w → IsDefinite Ber t f contents w
 definite_in_ber mode t f contents w d = record { header = d.header; is_header = header_in_ber mode t f _ _ d.is_header; is = d.is }
@@ -105,7 +118,18 @@ definite_in_ber mode t f contents w d = record { header = d.header; is_header = 
 framed_in_ber : (mode : Mode) (t : Tag) (contents w : List ℕ) → IsFramed mode t contents w → IsFramed Ber t contents w
 framed_in_ber mode t contents w (inl d) = inl (definite_in_ber mode t true contents w d)
 framed_in_ber mode t contents w (inr d) =
-    inr (record { header = d.header; is_header = header_in_ber mode t true _ _ d.is_header; end = d.end; is_end = record { zero_length = d.is_end.zero_length; is = d.is_end.is; is_length = IsLengthForm-from_length mode _ _ d.is_end.is_length }; is = d.is })
+    inr (record {
+      header = d.header;
+      is_header = header_in_ber mode t true _ _ d.is_header;
+      end = d.end;
+      is_end = record {
+        zero_length =
+            d.is_end.zero_length;
+        is = d.is_end.is;
+        is_length = IsLengthForm-from_length mode _ _ d.is_end.is_length;
+      };
+      is = d.is;
+    })
 
 mutual
   pub IsEncoding-in_ber : (mode : Mode) (t : Tree) (w : List ℕ) → IsEncoding mode t w → IsEncoding Ber t w

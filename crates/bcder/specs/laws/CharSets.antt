@@ -18,12 +18,14 @@ low_scalar c h = grind (arith, nat_tests)
 same_front : (x y : Front) → Some x ≡ Some y → x ≡ y
 same_front x y e = cc
 
-taken : (has : ℕ → Bool) (b : ℕ) (w : List ℕ) (t : Bool) (x : Front) → has b ≡ t → one_octet_step has (b ∷ w) ≡ Some x → (has b ≡ true) × (record { char = b; rest = w } ≡ x)
+taken : (has : ℕ → Bool) (b : ℕ) (w : List ℕ) (t : Bool) (x : Front) → has b ≡ t → one_octet_step has (b ∷ w) ≡ Some x
+    → (has b ≡ true) × (record { char = b; rest = w } ≡ x)
 taken has b w true x is e = (is, same_front _ _ (sym (rw is) ∙ e))
 taken has b w false x is e = let none : None ≡ Some x = sym (rw is) ∙ e in absurd cc
 
 -- the first octet passed the test, and is taken
-pub one_octet_taken : (has : ℕ → Bool) (b : ℕ) (w : List ℕ) (x : Front) → one_octet_step has (b ∷ w) ≡ Some x → (has b ≡ true) × (record { char = b; rest = w } ≡ x)
+pub one_octet_taken : (has : ℕ → Bool) (b : ℕ) (w : List ℕ) (x : Front) → one_octet_step has (b ∷ w) ≡ Some x
+    → (has b ≡ true) × (record { char = b; rest = w } ≡ x)
 one_octet_taken has b w x e = taken has b w (has b) x refl e
 
 pub one_octet_lawful : (has : ℕ → Bool) → ((b : ℕ) → has b ≡ true → IsScalar b) → IsStep (one_octet_step has)

@@ -21,7 +21,8 @@ kept_same c mode (Err d) (Ok e) p q = cc
 kept_same c mode (Err d) (Err e) p q = ap Err (p.1 ∙ sym q.1)
 
 -- encodings in one mode are encodings in the modes that suit it
-pub AreEncodings-suits : (own mode : Mode) (ts : Trees) (w : List ℕ) → suits own mode ≡ true → AreEncodings own ts w → AreEncodings mode ts w
+pub AreEncodings-suits : (own mode : Mode) (ts : Trees) (w : List ℕ) → suits own mode ≡ true → AreEncodings own ts w
+    → AreEncodings mode ts w
 AreEncodings-suits own Ber ts w s h = AreEncodings-in_ber own ts w h
 AreEncodings-suits Cer Cer ts w s h = h
 AreEncodings-suits Der Der ts w s h = h
@@ -37,7 +38,8 @@ kept_lawful c mode = record {
 }
 
 -- the octets that an encoder writes are the encoding of its values
-pub the_encodings : {mode : Mode} {M : Meaning → Type 0} → IsLawful mode M → (e : Encoded) → M (Ok e) → AreTheEncodings mode e.values e.octets
+pub the_encodings : {mode : Mode} {M : Meaning → Type 0} → IsLawful mode M → (e : Encoded) → M (Ok e)
+    → AreTheEncodings mode e.values e.octets
 the_encodings {mode} lawful e m =
     let h = lawful.encodes e m in
     record { encode = h; only = λ strict w k. one_spelling_each mode strict e.values w e.octets k h }

@@ -1,5 +1,6 @@
 -- Each integer has one smallest list of octets.
-use Rattle.std.proofs.Common.{◌≡◌, ℕ, zero, suc, ◌+◌, ◌-◌, ◌*◌, ◌/◌, ◌%◌, ◌^◌, ◌<◌, ◌≤◌, Bool, true, false, List, [], ◌∷◌, ◌++◌, length, refl, sym, ap, ◌∙◌, arith, inl, inr, ◌⊎◌, length-append, ltb, subst}
+use Rattle.std.proofs.Common.{◌≡◌, ℕ, zero, suc, ◌+◌, ◌-◌, ◌*◌, ◌/◌, ◌%◌, ◌^◌, ◌<◌, ◌≤◌, Bool, true, false, List, [], ◌∷◌, ◌++◌}
+use Rattle.std.proofs.Common.{length, refl, sym, ap, ◌∙◌, arith, inl, inr, ◌⊎◌, length-append, ltb, subst}
 use Rattle.std.specs.Prelude.{ℤ, pos, negsuc, ◌-ℤ◌}
 use Rattle.std.proofs.lemmas.Bool.{cases_lt, lt-ltb, le-ltb}
 use Rattle.std.proofs.lemmas.Nat.{mul-le}
@@ -77,10 +78,12 @@ positive_within : (k n : ℕ) → FitsBehind k n → big_endian (octets_within k
 positive_within zero n h = omega arith
 positive_within (suc k) n h = elim (cases_lt n 128) [
   | inl a ↦ rw (lt-ltb n 128 a) (omega arith)
-  | inr a ↦ rw (le-ltb n 128 a) (omega (arith, snoc_value (octets_within k false (n / 256)) (n % 256), positive_within k (n / 256) (fits_next k n h)))
+  | inr a ↦ rw (le-ltb n 128 a)
+      (omega (arith, snoc_value (octets_within k false (n / 256)) (n % 256), positive_within k (n / 256) (fits_next k n h)))
 ]
 
-negative_snoc : (w : List ℕ) (n : ℕ) → big_endian w + n / 256 + 1 ≡ 256 ^ length w → big_endian (w ++ (255 - n % 256) ∷ []) + n + 1 ≡ 256 ^ length (w ++ (255 - n % 256) ∷ [])
+negative_snoc : (w : List ℕ) (n : ℕ) → big_endian w + n / 256 + 1 ≡ 256 ^ length w
+    → big_endian (w ++ (255 - n % 256) ∷ []) + n + 1 ≡ 256 ^ length (w ++ (255 - n % 256) ∷ [])
 negative_snoc w n h =
     let l : length (w ++ (255 - n % 256) ∷ []) ≡ suc (length w) = omega (arith, length-append w ((255 - n % 256) ∷ [])) in
     let p : 256 ^ suc (length w) ≡ 256 * 256 ^ length w = omega arith in
@@ -123,7 +126,8 @@ two_snoc negative [] d l = absurd l
 two_snoc negative (a ∷ []) d l = tt
 two_snoc negative (a ∷ b ∷ w) d l = tt
 
-one_or_more : (k : ℕ) (negative : Bool) (n : ℕ) → FitsBehind k n → ((octets_within k negative n ≡ octet negative n ∷ []) × (n < 128)) ⊎ TwoOrMore (octets_within k negative n)
+one_or_more : (k : ℕ) (negative : Bool) (n : ℕ) → FitsBehind k n
+    → ((octets_within k negative n ≡ octet negative n ∷ []) × (n < 128)) ⊎ TwoOrMore (octets_within k negative n)
 one_or_more zero negative n h = let small : n % 256 ≡ n = omega arith in inl (ap (λ d. octet negative d ∷ []) small, omega arith)
 one_or_more (suc k) negative n h = elim (cases_lt n 128) [
   | inl a ↦ rw (lt-ltb n 128 a) (inl (refl, a))
@@ -150,10 +154,12 @@ smallest_within (suc k) negative n h = elim (cases_lt n 128) [
 ]
 
 pub positive_octets : (k n : ℕ) → FitsBehind k n → AreInteger (pos n) (octets_within k false n)
-positive_octets k n h = record { smallest = smallest_within k false n h; is = number_positive _ n (leads_within k false n h) (positive_within k n h) }
+positive_octets k n h =
+    record { smallest = smallest_within k false n h; is = number_positive _ n (leads_within k false n h) (positive_within k n h) }
 
 pub negative_octets : (k n : ℕ) → FitsBehind k n → AreInteger (negsuc n) (octets_within k true n)
-negative_octets k n h = record { smallest = smallest_within k true n h; is = number_negative _ n (leads_within k true n h) (negative_within k n h) }
+negative_octets k n h =
+    record { smallest = smallest_within k true n h; is = number_negative _ n (leads_within k true n h) (negative_within k n h) }
 
 pub some_integer : SomeInteger
 unfolding integer_octets
@@ -189,7 +195,8 @@ positive_sized b w o l h =
     let r = big_endian-lt w (λ i. o (suc i)) in
     record { some = omega arith; below = omega (arith, m, r, place w); least = positive_least b w l h }
 
-negative_least : (b n : ℕ) (w : List ℕ) → AreOctets (b ∷ w) → 128 ≤ b → IsSmallest (b ∷ w) → big_endian (b ∷ w) + n + 1 ≡ 256 ^ length (b ∷ w) → 2 ≤ length (b ∷ w) → 256 ^ length (b ∷ w) ≤ 512 * n
+negative_least : (b n : ℕ) (w : List ℕ) → AreOctets (b ∷ w) → 128 ≤ b → IsSmallest (b ∷ w)
+    → big_endian (b ∷ w) + n + 1 ≡ 256 ^ length (b ∷ w) → 2 ≤ length (b ∷ w) → 256 ^ length (b ∷ w) ≤ 512 * n
 negative_least b n [] o l h e two = absurd (omega arith)
 negative_least b n (c ∷ w) o l h e two = elim (cases_lt b 255) [
   | inl a ↦ (
@@ -205,7 +212,8 @@ negative_least b n (c ∷ w) o l h e two = elim (cases_lt b 255) [
       omega (arith, m, k, r, e, place w, place (c ∷ w)))
 ]
 
-negative_sized : (b n : ℕ) (w : List ℕ) → AreOctets (b ∷ w) → 128 ≤ b → IsSmallest (b ∷ w) → big_endian (b ∷ w) + n + 1 ≡ 256 ^ length (b ∷ w) → Sized n (b ∷ w)
+negative_sized : (b n : ℕ) (w : List ℕ) → AreOctets (b ∷ w) → 128 ≤ b → IsSmallest (b ∷ w)
+    → big_endian (b ∷ w) + n + 1 ≡ 256 ^ length (b ∷ w) → Sized n (b ∷ w)
 negative_sized b n w o l h e =
     let m = mul-le 128 (256 ^ length w) b (256 ^ length w) l (omega arith) in
     record { some = omega arith; below = omega (arith, m, e, place w); least = negative_least b n w o l h e }

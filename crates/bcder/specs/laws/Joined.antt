@@ -39,7 +39,8 @@ module _ {M N : Meaning → Type 0} (m_one : IsOne M) (n_one : IsOne N) where
 pub Then_lawful : {mode : Mode} {M N : Meaning → Type 0} → IsLawful mode M → IsLawful mode N → IsLawful mode (Then M N)
 Then_lawful {mode} {M} {N} m n = record {
   one = record { same = Then_same m.one n.one };
-  encodes = λ z p. subst (λ (a : Encoded). AreEncodings mode a.values a.octets) (sym p.4) (AreEncodings-join mode _ _ _ _ (m.encodes p.0 p.2) (n.encodes p.1 p.3));
+  encodes = λ z p. subst (λ (a : Encoded). AreEncodings mode a.values a.octets) (sym p.4)
+      (AreEncodings-join mode _ _ _ _ (m.encodes p.0 p.2) (n.encodes p.1 p.3));
 }
 
 module _ {M : Meaning → Type 0} (one : IsOne M) where
@@ -60,6 +61,8 @@ module _ {M : Meaning → Type 0} (one : IsOne M) where
 pub Joined_lawful : {mode : Mode} {M : Meaning → Type 0} → IsLawful mode M → IsLawful mode (Joined M)
 Joined_lawful m = record { one = record { same = Joined_same m.one }; encodes = λ e p. m.encodes e p.0 }
 
-pub EachOf_lawful : {X : Type 0} {P : X → Type 0} {M : X → Meaning → Type 0} (mode : Mode) → ((x : X) → P x → IsLawful mode (M x)) → (xs : List X) → All P xs → IsLawful mode (EachOf M xs)
+pub EachOf_lawful : {X : Type 0} {P : X → Type 0} {M : X → Meaning → Type 0} (mode : Mode) → ((x : X) → P x → IsLawful mode (M x))
+    → (xs : List X) → All P xs → IsLawful mode (EachOf M xs)
 EachOf_lawful mode m [] can = NoValues_lawful mode
-EachOf_lawful mode m (x ∷ xs) can = Then_lawful (m x (can 0 x (omega arith))) (EachOf_lawful mode m xs (λ k d below. can (suc k) d (omega (arith, below))))
+EachOf_lawful mode m (x ∷ xs) can =
+    Then_lawful (m x (can 0 x (omega arith))) (EachOf_lawful mode m xs (λ k d below. can (suc k) d (omega (arith, below))))

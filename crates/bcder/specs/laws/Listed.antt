@@ -55,22 +55,34 @@ module _ {V : Type 0} {steps : Iter V → Option (Bor V) → Iter V → Type 0} 
 
   -- the iterator may be run to its end
   module _ {can_next : Iter V → Type 0} {left : Iter V → Count} (ends : (i : Iter V) → can_next i × IsFinite (left i)) where
-    listed : {T : Type 0} {is_clone : T → T → Type 0} {gives : T → Iter V → Type 0} (x : T) (xs : List V) → ((t : T) (i : Iter V) → is_clone x t → gives t i → iter_rest i ≡ xs) → All (λ v. can (shown_one v)) xs
+    listed : {T : Type 0} {is_clone : T → T → Type 0} {gives : T → Iter V → Type 0} (x : T) (xs : List V)
+        → ((t : T) (i : Iter V) → is_clone x t → gives t i → iter_rest i ≡ xs) → All (λ v. can (shown_one v)) xs
         → GivesOneList is_clone gives steps can_next left can means x
-    listed x xs made all = record { items = shown xs; all_can = refs_can xs all; may_call = λ t i cloned given. ends i; same = λ t i cloned given. refs_given xs i (made t i cloned given) all }
+    listed x xs made all = record {
+      items = shown xs;
+      all_can = refs_can xs all;
+      may_call = λ t i cloned given. ends i;
+      same = λ t i cloned given. refs_given xs i (made t i cloned given) all;
+    }
 
     -- an iterator over a slice gives one list
-    pub slice_iter_listed : {is_clone gives : Iter V → Iter V → Type 0} {x : Iter V} → ((s t : Iter V) → is_clone s t → iter_rest t ≡ iter_rest s) → ((s t : Iter V) → gives s t → t ≡ s) → All (λ v. can (shown_one v)) (iter_rest x)
+    pub slice_iter_listed : {is_clone gives : Iter V → Iter V → Type 0} {x : Iter V}
+        → ((s t : Iter V) → is_clone s t → iter_rest t ≡ iter_rest s) → ((s t : Iter V) → gives s t → t ≡ s)
+        → All (λ v. can (shown_one v)) (iter_rest x)
         → GivesOneList is_clone gives steps can_next left can means x
     slice_iter_listed {x = x} clones made all = listed x (iter_rest x) (λ t i c g. ap iter_rest (made t i g) ∙ clones x t c) all
 
     -- a slice gives one list
-    pub slice_listed : {is_clone : Bor (List V) → Bor (List V) → Type 0} {gives : Bor (List V) → Iter V → Type 0} {x : Bor (List V)} → ((s t : Bor (List V)) → is_clone s t → t ≡ s) → ((s : Bor (List V)) (i : Iter V) → gives s i → iter_rest i ≡ s.now) → All (λ v. can (shown_one v)) x.now
+    pub slice_listed : {is_clone : Bor (List V) → Bor (List V) → Type 0} {gives : Bor (List V) → Iter V → Type 0} {x : Bor (List V)}
+        → ((s t : Bor (List V)) → is_clone s t → t ≡ s) → ((s : Bor (List V)) (i : Iter V) → gives s i → iter_rest i ≡ s.now)
+        → All (λ v. can (shown_one v)) x.now
         → GivesOneList is_clone gives steps can_next left can means x
     slice_listed {x = x} clones made all = listed x x.now (λ t i c g. made t i g ∙ ap (λ z. z.now) (clones x t c)) all
 
     -- a vector, by reference, gives one list
-    pub vec_listed : {A : Type 0} {is_clone : Bor (Vec V A) → Bor (Vec V A) → Type 0} {gives : Bor (Vec V A) → Iter V → Type 0} {x : Bor (Vec V A)} → ((s t : Bor (Vec V A)) → is_clone s t → t ≡ s) → ((s : Bor (Vec V A)) (i : Iter V) → gives s i → iter_rest i ≡ s.now.items) → All (λ v. can (shown_one v)) x.now.items
+    pub vec_listed : {A : Type 0} {is_clone : Bor (Vec V A) → Bor (Vec V A) → Type 0} {gives : Bor (Vec V A) → Iter V → Type 0}
+        {x : Bor (Vec V A)} → ((s t : Bor (Vec V A)) → is_clone s t → t ≡ s)
+        → ((s : Bor (Vec V A)) (i : Iter V) → gives s i → iter_rest i ≡ s.now.items) → All (λ v. can (shown_one v)) x.now.items
         → GivesOneList is_clone gives steps can_next left can means x
     vec_listed {x = x} clones made all = listed x x.now.items (λ t i c g. made t i g ∙ ap (λ z. z.now.items) (clones x t c)) all
 
@@ -86,23 +98,37 @@ module _ {V : Type 0} {steps : Iter V → Option (Bor V) → Iter V → Type 0} 
       let (k, v, below, is, m) = item_given run.0 t u xs y run.2 st l in
       subst (Any L) (sym (are_steps s _ run.0 run.1)) (suc k, v, omega (arith, below), is, m)
 
-  given_lacks : {T : Type 0} {is_clone : T → T → Type 0} (is_infallible : T → Type 0) {gives : T → Iter V → Type 0} (x : T) (vs : List V) → is_infallible x → ((t : T) (i : Iter V) → is_clone x t → gives t i → iter_rest i ≡ vs) → RunsLack is_clone is_infallible gives steps lacks x → Any L vs
+  given_lacks : {T : Type 0} {is_clone : T → T → Type 0} (is_infallible : T → Type 0) {gives : T → Iter V → Type 0} (x : T) (vs : List V)
+      → is_infallible x → ((t : T) (i : Iter V) → is_clone x t → gives t i → iter_rest i ≡ vs)
+      → RunsLack is_clone is_infallible gives steps lacks x → Any L vs
   given_lacks is_infallible x vs safe made (inl fails) = absurd (fails safe)
   given_lacks is_infallible x vs safe made (inr g) =
       let b = g.begins in
-      subst (Any L) (made b.copy b.from b.cloned b.made) (item_given b.from b.to g.left g.before g.item b.ran g.gives_item (of_item g.item g.may))
+      subst (Any L) (made b.copy b.from b.cloned b.made)
+      (item_given b.from b.to g.left g.before g.item b.ran g.gives_item (of_item g.item g.may))
 
   -- memory may run out for an iterator over a slice only if it may for an item
-  pub slice_iter_lacks : {is_clone gives : Iter V → Iter V → Type 0} (is_infallible : Iter V → Type 0) {x : Iter V} → is_infallible x → ((s t : Iter V) → is_clone s t → iter_rest t ≡ iter_rest s) → ((s t : Iter V) → gives s t → t ≡ s) → RunsLack is_clone is_infallible gives steps lacks x → Any L (iter_rest x)
-  slice_iter_lacks is_infallible {x = x} safe clones made h = given_lacks is_infallible x (iter_rest x) safe (λ t i c g. ap iter_rest (made t i g) ∙ clones x t c) h
+  pub slice_iter_lacks : {is_clone gives : Iter V → Iter V → Type 0} (is_infallible : Iter V → Type 0) {x : Iter V} → is_infallible x
+      → ((s t : Iter V) → is_clone s t → iter_rest t ≡ iter_rest s) → ((s t : Iter V) → gives s t → t ≡ s)
+      → RunsLack is_clone is_infallible gives steps lacks x → Any L (iter_rest x)
+  slice_iter_lacks is_infallible {x = x} safe clones made h =
+      given_lacks is_infallible x (iter_rest x) safe (λ t i c g. ap iter_rest (made t i g) ∙ clones x t c) h
 
   -- memory may run out for a slice only if it may for an item
-  pub slice_lacks : {is_clone : Bor (List V) → Bor (List V) → Type 0} (is_infallible : Bor (List V) → Type 0) {gives : Bor (List V) → Iter V → Type 0} {x : Bor (List V)} → is_infallible x → ((s t : Bor (List V)) → is_clone s t → t ≡ s) → ((s : Bor (List V)) (i : Iter V) → gives s i → iter_rest i ≡ s.now) → RunsLack is_clone is_infallible gives steps lacks x → Any L x.now
-  slice_lacks is_infallible {x = x} safe clones made h = given_lacks is_infallible x x.now safe (λ t i c g. made t i g ∙ ap (λ z. z.now) (clones x t c)) h
+  pub slice_lacks : {is_clone : Bor (List V) → Bor (List V) → Type 0} (is_infallible : Bor (List V) → Type 0)
+      {gives : Bor (List V) → Iter V → Type 0} {x : Bor (List V)} → is_infallible x → ((s t : Bor (List V)) → is_clone s t → t ≡ s)
+      → ((s : Bor (List V)) (i : Iter V) → gives s i → iter_rest i ≡ s.now)
+      → RunsLack is_clone is_infallible gives steps lacks x → Any L x.now
+  slice_lacks is_infallible {x = x} safe clones made h =
+      given_lacks is_infallible x x.now safe (λ t i c g. made t i g ∙ ap (λ z. z.now) (clones x t c)) h
 
   -- memory may run out for a vector, by reference, only if it may for an item
-  pub vec_lacks : {A : Type 0} {is_clone : Bor (Vec V A) → Bor (Vec V A) → Type 0} (is_infallible : Bor (Vec V A) → Type 0) {gives : Bor (Vec V A) → Iter V → Type 0} {x : Bor (Vec V A)} → is_infallible x → ((s t : Bor (Vec V A)) → is_clone s t → t ≡ s) → ((s : Bor (Vec V A)) (i : Iter V) → gives s i → iter_rest i ≡ s.now.items) → RunsLack is_clone is_infallible gives steps lacks x → Any L x.now.items
-  vec_lacks is_infallible {x = x} safe clones made h = given_lacks is_infallible x x.now.items safe (λ t i c g. made t i g ∙ ap (λ z. z.now.items) (clones x t c)) h
+  pub vec_lacks : {A : Type 0} {is_clone : Bor (Vec V A) → Bor (Vec V A) → Type 0} (is_infallible : Bor (Vec V A) → Type 0)
+      {gives : Bor (Vec V A) → Iter V → Type 0} {x : Bor (Vec V A)} → is_infallible x → ((s t : Bor (Vec V A)) → is_clone s t → t ≡ s)
+      → ((s : Bor (Vec V A)) (i : Iter V) → gives s i → iter_rest i ≡ s.now.items)
+      → RunsLack is_clone is_infallible gives steps lacks x → Any L x.now.items
+  vec_lacks is_infallible {x = x} safe clones made h =
+      given_lacks is_infallible x x.now.items safe (λ t i c g. made t i g ∙ ap (λ z. z.now.items) (clones x t c)) h
 
 -- the rules that a caller of `iter` names once
 pub ruleset gives_one_list = (slice_iter_listed, slice_listed, vec_listed)

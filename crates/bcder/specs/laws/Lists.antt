@@ -6,9 +6,11 @@ use Rattle.bcder.specs.x690.Tree.{Tree, Trees, no_trees, ◌∷ₜ◌, ◌+++◌
 use Rattle.bcder.specs.x690.Encoding.{IsEncoding, AreEncodings}
 use Rattle.bcder.specs.laws.Complete.{two_octets}
 
-pub AreEncodings-join : (mode : Mode) (ts us : Trees) (v w : List ℕ) → AreEncodings mode ts v → AreEncodings mode us w → AreEncodings mode (ts +++ us) (v ++ w)
+pub AreEncodings-join : (mode : Mode) (ts us : Trees) (v w : List ℕ) → AreEncodings mode ts v → AreEncodings mode us w
+    → AreEncodings mode (ts +++ us) (v ++ w)
 AreEncodings-join mode no_trees us v w h k = rw h k
-AreEncodings-join mode (t ∷ₜ ts) us v w h k = (h.0, h.1 ++ w, h.2, AreEncodings-join mode ts us h.1 w h.3 k, rw h.4 (append_assoc h.0 h.1 w))
+AreEncodings-join mode (t ∷ₜ ts) us v w h k =
+    (h.0, h.1 ++ w, h.2, AreEncodings-join mode ts us h.1 w h.3 k, rw h.4 (append_assoc h.0 h.1 w))
 
 pub AreEncodings-one : (mode : Mode) (t : Tree) (w : List ℕ) → IsEncoding mode t w → AreEncodings mode (t ∷ₜ no_trees) w
 AreEncodings-one mode t w h = (w, [], h, refl, sym (append-nil w))

@@ -1,5 +1,6 @@
 -- What moved content is: laws of `Moves`, by which `Moved` of a parameter is stated. Crates that use this one cite them in `using(..)`.
-use Rattle.std.proofs.Common.{◌≡◌, ◌≢◌, ℕ, ◌+◌, ◌≤◌, Bool, true, false, List, [], ◌++◌, length, refl, ap, sym, ◌∙◌, arith, length-append, append_assoc, append-nil, subst, inl, inr}
+use Rattle.std.proofs.Common.{◌≡◌, ◌≢◌, ℕ, ◌+◌, ◌≤◌, Bool, true, false, List, [], ◌++◌, length, refl, ap, sym, ◌∙◌}
+use Rattle.std.proofs.Common.{arith, length-append, append_assoc, append-nil, subst, inl, inr}
 use Rattle.std.specs.Prelude.{Option, Some, None, ◌⊎◌}
 use Rattle.std.proofs.lemmas.Grind.{common_steps}
 use Rattle.bcder.specs.declared.mode.Mode.{Mode}
@@ -41,7 +42,8 @@ end_in_ber m w e = record { zero_length = e.zero_length; is = e.is; is_length = 
 -- ---- the octets passed
 
 -- the octets passed are whole values under a later mark too, which makes them BER
-pub whole_marked : (m : Mode) (c d : Reading) (p : List ℕ) (a b : Bool) → (a ≡ true → b ≡ true) → Whole (label m a) c p d → Whole (label m b) c p d
+pub whole_marked : (m : Mode) (c d : Reading) (p : List ℕ) (a b : Bool) → (a ≡ true → b ≡ true) → Whole (label m a) c p d
+    → Whole (label m b) c p d
 whole_marked m c d p true true f w = w
 whole_marked m c d p true false f w = absurd (let x : false ≡ true = f refl in cc)
 whole_marked m c d p false false f w = w
@@ -71,7 +73,8 @@ closes_last m d e x s (inl h) = h.1 ∙ s
 closes_last m d e x s (inr h) = h.3
 
 -- after the end marker no octets are passed
-whole_trans : (m : Mode) (c d e : Reading) (p q : List ℕ) (a : Whole m c p d) → d.kind ≡ c.kind → (d.state ≡ Ended → q ≡ []) → Closes m c a.close d → Whole m d q e → Whole m c (p ++ q) e
+whole_trans : (m : Mode) (c d e : Reading) (p q : List ℕ) (a : Whole m c p d) → d.kind ≡ c.kind → (d.state ≡ Ended → q ≡ [])
+    → Closes m c a.close d → Whole m d q e → Whole m c (p ++ q) e
 whole_trans m c d e p q a k done (inl s) b = record {
   trees = a.trees +++ b.trees;
   values = a.values ++ b.values;
@@ -89,12 +92,16 @@ whole_trans m c d e p q a k done (inr s) b = record {
   closes = inr (s.0, s.1, s.2, closes_last m d e b.close s.3 b.closes);
 }
 
-whole_both : (c d e : Reading) (p q : List ℕ) → d.kind ≡ c.kind → (d.marked ≡ false → d.mode ≡ c.mode) → (d.marked ≡ true → e.marked ≡ true) → (d.state ≡ Ended → q ≡ []) → Whole (label c.mode d.marked) c p d → Whole (label d.mode e.marked) d q e → Whole (label c.mode e.marked) c (p ++ q) e
+whole_both : (c d e : Reading) (p q : List ℕ) → d.kind ≡ c.kind → (d.marked ≡ false → d.mode ≡ c.mode) → (d.marked ≡ true → e.marked ≡ true)
+    → (d.state ≡ Ended → q ≡ []) → Whole (label c.mode d.marked) c p d → Whole (label d.mode e.marked) d q e
+    → Whole (label c.mode e.marked) c (p ++ q) e
 whole_both c d e p q k g f done a b =
     let a' : Whole (label c.mode e.marked) c p d = whole_marked c.mode c d p d.marked e.marked f a in
-    whole_trans (label c.mode e.marked) c d e p q a' k done a'.closes (subst (λ x. Whole x d q e) (label_of c.mode d.mode d.marked e.marked f g) b)
+    whole_trans (label c.mode e.marked) c d e p q a' k done a'.closes
+    (subst (λ x. Whole x d q e) (label_of c.mode d.mode d.marked e.marked f g) b)
 
-ends_trans : (c d e : Reading) → d.kind ≡ c.kind → (d.state ≡ Ended → (c.state ≡ Ended) ⊎ (c.kind ≡ IndefiniteValues)) → (d.state ≡ Ended) ⊎ (d.kind ≡ IndefiniteValues) → (c.state ≡ Ended) ⊎ (c.kind ≡ IndefiniteValues)
+ends_trans : (c d e : Reading) → d.kind ≡ c.kind → (d.state ≡ Ended → (c.state ≡ Ended) ⊎ (c.kind ≡ IndefiniteValues))
+    → (d.state ≡ Ended) ⊎ (d.kind ≡ IndefiniteValues) → (c.state ≡ Ended) ⊎ (c.kind ≡ IndefiniteValues)
 ends_trans c d e k f (inl s) = f s
 ends_trans c d e k f (inr s) = inr (sym k ∙ s)
 
@@ -138,7 +145,8 @@ moved_twice_is_moved c d e a b = record {
   failed = λ f. b.failed (a.failed f);
   marked = λ f. b.marked (a.marked f);
   ends = λ x. ends_trans c d e a.kind a.ends (b.ends x);
-  whole = λ n o. whole_both c d e a.passed b.passed a.kind a.mode b.marked (λ t. (b.ended t).1) (a.whole (not_failed d e b.failed n) o) (b.whole n (λ k. o (sym a.kind ∙ k)));
+  whole = λ n o. whole_both c d e a.passed b.passed a.kind a.mode b.marked (λ t. (b.ended t).1) (a.whole (not_failed d e b.failed n) o)
+      (b.whole n (λ k. o (sym a.kind ∙ k)));
 }
 
 -- whatever moved to content moves on with it

@@ -4,7 +4,8 @@ use Rattle.std.proofs.lemmas.Bool.{cases_lt, lt-ltb, le-ltb}
 use Rattle.bcder.specs.declared.mode.Mode.{Mode}
 use Rattle.bcder.specs.declared.length.Length.{Length}
 use Rattle.bcder.specs.declared.length.Length.TheVariants.{Definite, Indefinite}
-use Rattle.bcder.specs.x690.Identifier.{AreOctets, Class, universal, application, context_specific, private, Tag, IsTag, class_bits, form_bit, base128, identifier}
+use Rattle.bcder.specs.x690.Identifier.{AreOctets, Class, universal, application, context_specific, private, Tag}
+use Rattle.bcder.specs.x690.Identifier.{IsTag, class_bits, form_bit, base128, identifier}
 use Rattle.bcder.specs.x690.Length.{IsLengthForm, AreLengthOctets, IsEndOfContents}
 use Rattle.bcder.specs.x690.Tree.{Tree, primitive, constructed, Trees, no_trees, ◌∷ₜ◌}
 use Rattle.bcder.specs.x690.Encoding.{IsHeader, IsFramed, IsEncoding, AreEncodings}
@@ -45,7 +46,8 @@ AreOctets-base128 n h =
       | inl a ↦ rw (lt-ltb n 128 a) (AreOctets-cons n [] (omega arith) AreOctets-nil)
       | inr a ↦ elim (cases_lt n 16384) [
         | inl b ↦ rw (le-ltb n 128 a, lt-ltb n 16384 b) (two (128 + n / 128) (n % 128) (omega arith) (omega arith))
-        | inr b ↦ rw (le-ltb n 128 a, le-ltb n 16384 b) (three (128 + n / 16384) (128 + n / 128 % 128) (n % 128) (omega arith) (omega arith) (omega arith))
+        | inr b ↦ rw (le-ltb n 128 a, le-ltb n 16384 b)
+            (three (128 + n / 16384) (128 + n / 128 % 128) (n % 128) (omega arith) (omega arith) (omega arith))
       ]
     ]
 
@@ -54,7 +56,8 @@ unfolding identifier
 AreOctets-identifier t f h =
     elim (cases_lt t.number 31) [
       | inl a ↦ rw (lt-ltb t.number 31 a) (AreOctets-cons _ [] (lead t.class f t.number (omega arith)) AreOctets-nil)
-      | inr a ↦ rw (le-ltb t.number 31 a) (AreOctets-cons _ (base128 t.number) (lead t.class f 31 (omega arith)) (AreOctets-base128 t.number h))
+      | inr a ↦ rw (le-ltb t.number 31 a)
+          (AreOctets-cons _ (base128 t.number) (lead t.class f 31 (omega arith)) (AreOctets-base128 t.number h))
     ]
 
 form_octets : (n : ℕ) (w : List ℕ) → IsLengthForm n w → AreOctets w
@@ -69,18 +72,23 @@ end_octets : (mode : Mode) (w : List ℕ) → IsEndOfContents mode w → AreOcte
 end_octets mode w h = rw (h.is) (AreOctets-cons 0 h.zero_length (omega arith) (tells_octets mode (Definite 0) h.zero_length h.is_length))
 
 header_octets : (mode : Mode) (t : Tag) (f : Bool) (len : Length) (w : List ℕ) → IsHeader mode t f len w → AreOctets w
-header_octets mode t f len w h = rw (h.is) (AreOctets-append (identifier t f) h.length_octets (AreOctets-identifier t f h.is_value_tag.fits) (tells_octets mode len h.length_octets h.tells))
+header_octets mode t f len w h = rw (h.is) (AreOctets-append (identifier t f) h.length_octets (AreOctets-identifier t f h.is_value_tag.fits)
+    (tells_octets mode len h.length_octets h.tells))
 
 framed_octets : (mode : Mode) (t : Tag) (contents w : List ℕ) → AreOctets contents → IsFramed mode t contents w → AreOctets w
-framed_octets mode t contents w o (inl d) = rw (d.is) (AreOctets-append d.header contents (header_octets mode t true _ d.header d.is_header) o)
+framed_octets mode t contents w o (inl d) =
+    rw (d.is) (AreOctets-append d.header contents (header_octets mode t true _ d.header d.is_header) o)
 framed_octets mode t contents w o (inr d) =
-    rw (d.is) (AreOctets-append d.header (contents ++ d.end) (header_octets mode t true _ d.header d.is_header) (AreOctets-append contents d.end o (end_octets mode d.end d.is_end)))
+    rw (d.is) (AreOctets-append d.header (contents ++ d.end) (header_octets mode t true _ d.header d.is_header)
+    (AreOctets-append contents d.end o (end_octets mode d.end d.is_end)))
 
 mutual
   pub AreOctets-encoding : (mode : Mode) (t : Tree) (w : List ℕ) → IsEncoding mode t w → AreOctets w
-  AreOctets-encoding mode (primitive t contents) w h = rw (h.1.is) (AreOctets-append h.1.header contents (header_octets mode t false _ h.1.header h.1.is_header) h.0)
+  AreOctets-encoding mode (primitive t contents) w h =
+      rw (h.1.is) (AreOctets-append h.1.header contents (header_octets mode t false _ h.1.header h.1.is_header) h.0)
   AreOctets-encoding mode (constructed t ts) w h = framed_octets mode t h.0 w (AreOctets-encodings mode ts h.0 h.1) h.2
 
   pub AreOctets-encodings : (mode : Mode) (ts : Trees) (w : List ℕ) → AreEncodings mode ts w → AreOctets w
   AreOctets-encodings mode no_trees w h = rw h AreOctets-nil
-  AreOctets-encodings mode (t ∷ₜ ts) w h = rw (h.4) (AreOctets-append h.0 h.1 (AreOctets-encoding mode t h.0 h.2) (AreOctets-encodings mode ts h.1 h.3))
+  AreOctets-encodings mode (t ∷ₜ ts) w h =
+      rw (h.4) (AreOctets-append h.0 h.1 (AreOctets-encoding mode t h.0 h.2) (AreOctets-encodings mode ts h.1 h.3))

@@ -23,7 +23,8 @@ pub cmp_equal : (m n : ℕ) → m ≡ n → nat_cmp m n ≡ Equal
 cmp_equal m n l = grind (arith, nat_tests)
 
 -- octets of one length are compared as the unsigned numbers that they are
-same_length_order : (v w : List ℕ) → length v ≡ length w → AreOctets v → AreOctets w → slice_cmp nat_cmp v w ≡ nat_cmp (big_endian v) (big_endian w)
+same_length_order : (v w : List ℕ) → length v ≡ length w → AreOctets v → AreOctets w
+    → slice_cmp nat_cmp v w ≡ nat_cmp (big_endian v) (big_endian w)
 same_length_order [] [] l o p = refl
 same_length_order [] (b ∷ w) l o p = absurd (omega arith)
 same_length_order (a ∷ v) [] l o p = absurd (omega arith)
@@ -69,7 +70,8 @@ pub leads_tested_negative : (w : List ℕ) → Leads true w → is_negative w �
 leads_tested_negative [] l = absurd l
 leads_tested_negative (b ∷ w) l = le-leb 128 b l
 
-positives : (m n : ℕ) (v w : List ℕ) → AreOctets v → AreOctets w → Sized m v → Sized n w → big_endian v ≡ m → big_endian w ≡ n → same_sign_order false v w ≡ nat_cmp m n
+positives : (m n : ℕ) (v w : List ℕ) → AreOctets v → AreOctets w → Sized m v → Sized n w → big_endian v ≡ m → big_endian w ≡ n
+    → same_sign_order false v w ≡ nat_cmp m n
 positives m n v w o p s t a b = elim (cases_lt (length v) (length w)) [
   | inl less ↦ rw (cmp_less (length v) (length w) less) (sym (cmp_less m n (nearer m n v w s t less)))
   | inr other ↦ elim (cases_lt (length w) (length v)) [
@@ -80,14 +82,16 @@ positives m n v w o p s t a b = elim (cases_lt (length v) (length w)) [
   ]
 ]
 
-negatives : (m n : ℕ) (v w : List ℕ) → AreOctets v → AreOctets w → Sized m v → Sized n w → big_endian v + m + 1 ≡ 256 ^ length v → big_endian w + n + 1 ≡ 256 ^ length w → same_sign_order true v w ≡ nat_cmp n m
+negatives : (m n : ℕ) (v w : List ℕ) → AreOctets v → AreOctets w → Sized m v → Sized n w → big_endian v + m + 1 ≡ 256 ^ length v
+    → big_endian w + n + 1 ≡ 256 ^ length w → same_sign_order true v w ≡ nat_cmp n m
 negatives m n v w o p s t a b = elim (cases_lt (length v) (length w)) [
   | inl less ↦ rw (cmp_greater (length w) (length v) less) (sym (cmp_greater n m (nearer m n v w s t less)))
   | inr other ↦ elim (cases_lt (length w) (length v)) [
     | inl more ↦ rw (cmp_less (length w) (length v) more) (sym (cmp_less n m (nearer n m w v t s more)))
     | inr same ↦ (
         let l : length v ≡ length w = omega arith in
-        rw (cmp_equal (length w) (length v) (sym l), same_length_order v w l o p) (turned (big_endian v) (big_endian w) m n _ _ a b (ap (λ k. 256 ^ k) l)))
+        rw (cmp_equal (length w) (length v) (sym l), same_length_order v w l o p)
+        (turned (big_endian v) (big_endian w) m n _ _ a b (ap (λ k. 256 ^ k) l)))
   ]
 ]
   where
@@ -95,10 +99,12 @@ negatives m n v w o p s t a b = elim (cases_lt (length v) (length w)) [
     turned x y m n a b e f g = grind (arith, nat_tests)
 
 order_told : (x y : ℤ) (v w : List ℕ) → AreOctets v → AreOctets w → Told v x → Told w y → integer_order v w ≡ int_cmp x y
-order_told (pos m) (pos n) v w o p (positive _ l s a) (positive _ k t b) = rw (leads_tested v l, leads_tested w k) (positives m n v w o p s t a b ∙ sym (int_cmp_pos m n))
+order_told (pos m) (pos n) v w o p (positive _ l s a) (positive _ k t b) =
+    rw (leads_tested v l, leads_tested w k) (positives m n v w o p s t a b ∙ sym (int_cmp_pos m n))
 order_told (pos m) (negsuc n) v w o p (positive _ l s a) (negative _ k t b) = rw (leads_tested v l, leads_tested_negative w k) refl
 order_told (negsuc m) (pos n) v w o p (negative _ l s a) (positive _ k t b) = rw (leads_tested_negative v l, leads_tested w k) refl
-order_told (negsuc m) (negsuc n) v w o p (negative _ l s a) (negative _ k t b) = rw (leads_tested_negative v l, leads_tested_negative w k) (negatives m n v w o p s t a b ∙ sym (int_cmp_negsuc m n))
+order_told (negsuc m) (negsuc n) v w o p (negative _ l s a) (negative _ k t b) =
+    rw (leads_tested_negative v l, leads_tested_negative w k) (negatives m n v w o p s t a b ∙ sym (int_cmp_negsuc m n))
 
 pub order_of_integers : OrderOfIntegers
 order_of_integers x y v w o p a b = order_told x y v w o p (told_by x v o a) (told_by y w p b)

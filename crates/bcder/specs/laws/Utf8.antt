@@ -1,5 +1,6 @@
 -- UTF-8 by the table of RFC 3629 is UTF-8 as std means it: the encodings of characters.
-use Rattle.std.specs.Prelude.{◌≡◌, ◌↔◌, ℕ, suc, ◌+◌, ◌-◌, ◌/◌, ◌%◌, ◌<◌, ◌≤◌, ◌⊎◌, List, [], ◌∷◌, ◌++◌, Bool, true, false, ◌&&◌, if◌then◌else◌, Option, Some, None, refl}
+use Rattle.std.specs.Prelude.{◌≡◌, ◌↔◌, ℕ, suc, ◌+◌, ◌-◌, ◌/◌, ◌%◌, ◌<◌, ◌≤◌, ◌⊎◌, List, [], ◌∷◌, ◌++◌, Bool}
+use Rattle.std.specs.Prelude.{true, false, ◌&&◌, if◌then◌else◌, Option, Some, None, refl}
 use Rattle.std.proofs.Common.{ap, sym, subst, arith, ◌∙◌, inl, inr, ⊎_elim}
 use Rattle.std.proofs.lemmas.Bool.{cond-true, cond-false}
 use Rattle.std.proofs.lemmas.Bool.Decides.{nat_tests}
@@ -41,7 +42,8 @@ encode_three : (c : ℕ) → 0x800 ≤ c → c < 0x1_0000 → encode_utf8 c ≡ 
 unfolding encode_utf8
 encode_three c low high = grind (arith, nat_tests)
 
-encode_four : (c : ℕ) → 0x1_0000 ≤ c → encode_utf8 c ≡ (240 + c / 262144) ∷ (128 + (c / 4096) % 64) ∷ (128 + (c / 64) % 64) ∷ (128 + c % 64) ∷ []
+encode_four : (c : ℕ) → 0x1_0000 ≤ c
+    → encode_utf8 c ≡ (240 + c / 262144) ∷ (128 + (c / 4096) % 64) ∷ (128 + (c / 64) % 64) ∷ (128 + c % 64) ∷ []
 unfolding encode_utf8
 encode_four c low = grind (arith, nat_tests)
 
@@ -56,16 +58,20 @@ of_two a b p q h k =
     let e1 : 128 + c % 64 ≡ b = omega arith in
     (low_scalar c (omega arith), encode_two c (omega arith) (omega arith) ∙ (λ i. e0 i ∷ e1 i ∷ []))
 
-of_three : (a b d : ℕ) → 224 ≤ a → a ≤ 239 → 128 ≤ b → b ≤ 191 → 128 ≤ d → d ≤ 191 → 32 ≤ six_more (a - 224) b → (six_more (a - 224) b < 864) ⊎ (896 ≤ six_more (a - 224) b)
+of_three : (a b d : ℕ) → 224 ≤ a → a ≤ 239 → 128 ≤ b → b ≤ 191 → 128 ≤ d → d ≤ 191 → 32 ≤ six_more (a - 224) b
+    → (six_more (a - 224) b < 864) ⊎ (896 ≤ six_more (a - 224) b)
     → IsOf (six_more (six_more (a - 224) b) d) (a ∷ b ∷ d ∷ [])
 of_three a b d p q h k f g least s =
     let c = six_more (six_more (a - 224) b) d in
     let e0 : 224 + c / 4096 ≡ a = omega arith in
     let e1 : 128 + (c / 64) % 64 ≡ b = omega arith in
-    let e2 : 128 + c % 64 ≡ d = omega arith in
-    (⊎_elim (λ l. low_scalar c (omega arith)) (λ u. high_scalar c (omega arith) (omega arith)) s, encode_three c (omega arith) (omega arith) ∙ (λ i. e0 i ∷ e1 i ∷ e2 i ∷ []))
+    let e2 : 128 + c % 64 ≡ d = omega arith in (
+      ⊎_elim (λ l. low_scalar c (omega arith)) (λ u. high_scalar c (omega arith) (omega arith)) s,
+      encode_three c (omega arith) (omega arith) ∙ (λ i. e0 i ∷ e1 i ∷ e2 i ∷ []),
+    )
 
-of_four : (a b d x : ℕ) → 240 ≤ a → 128 ≤ b → b ≤ 191 → 128 ≤ d → d ≤ 191 → 128 ≤ x → x ≤ 191 → 16 ≤ six_more (a - 240) b → six_more (a - 240) b < 272
+of_four : (a b d x : ℕ) → 240 ≤ a → 128 ≤ b → b ≤ 191 → 128 ≤ d → d ≤ 191 → 128 ≤ x → x ≤ 191 → 16 ≤ six_more (a - 240) b
+    → six_more (a - 240) b < 272
     → IsOf (six_more (six_more (six_more (a - 240) b) d) x) (a ∷ b ∷ d ∷ x ∷ [])
 of_four a b d x p h k f g m n least most =
     let high = six_more (a - 240) b in
@@ -84,10 +90,13 @@ of_four a b d x p h k f g m n least most =
 abbrev LeadForm : ℕ → Lead → Type 0
 LeadForm a l =
     ((194 ≤ a) × (a ≤ 223) × (l.bits ≡ a - 192) × (l.low ≡ 128) × (l.high ≡ 191) × (l.tails ≡ 0))
-    ⊎ (((224 ≤ a) × (a ≤ 239) × (l.bits ≡ a - 224) × (128 ≤ l.low) × (l.high ≤ 191) × (32 ≤ six_more l.bits l.low) × ((six_more l.bits l.high < 864) ⊎ (896 ≤ six_more l.bits l.low)) × (l.tails ≡ 1))
-    ⊎ ((240 ≤ a) × (l.bits ≡ a - 240) × (128 ≤ l.low) × (l.high ≤ 191) × (16 ≤ six_more l.bits l.low) × (six_more l.bits l.high < 272) × (l.tails ≡ 2)))
+    ⊎ (((224 ≤ a) × (a ≤ 239) × (l.bits ≡ a - 224) × (128 ≤ l.low) × (l.high ≤ 191) × (32 ≤ six_more l.bits l.low)
+    × ((six_more l.bits l.high < 864) ⊎ (896 ≤ six_more l.bits l.low)) × (l.tails ≡ 1))
+    ⊎ ((240 ≤ a) × (l.bits ≡ a - 240) × (128 ≤ l.low) × (l.high ≤ 191) × (16 ≤ six_more l.bits l.low)
+    × (six_more l.bits l.high < 272) × (l.tails ≡ 2)))
 
-row : (lo hi a : ℕ) (this l : Lead) (o : Option Lead) → (if is_in_range lo hi a then Some this else o) ≡ Some l → ((lo ≤ a) × (a ≤ hi) × (this ≡ l)) ⊎ (o ≡ Some l)
+row : (lo hi a : ℕ) (this l : Lead) (o : Option Lead) → (if is_in_range lo hi a then Some this else o) ≡ Some l
+    → ((lo ≤ a) × (a ≤ hi) × (this ≡ l)) ⊎ (o ≡ Some l)
 row lo hi a this l o e = by (is_in_range lo hi a) refl e
   where
     by : (t : Bool) → is_in_range lo hi a ≡ t → (if t then Some this else o) ≡ Some l → ((lo ≤ a) × (a ≤ hi) × (this ≡ l)) ⊎ (o ≡ Some l)
@@ -97,10 +106,14 @@ row lo hi a this l o e = by (is_in_range lo hi a) refl e
 pub lead_forms : (a : ℕ) (l : Lead) → lead a ≡ Some l → LeadForm a l
 lead_forms a l e =
     ⊎_elim (λ h. at _ h.2 (inl (omega arith, omega arith, refl, refl, refl, refl)))
-    (λ e. ⊎_elim (λ h. at _ h.2 (inr (inl (omega arith, omega arith, refl, omega arith, omega arith, omega arith, inl (omega arith), refl))))
-    (λ e. ⊎_elim (λ h. at _ h.2 (inr (inl (omega arith, omega arith, refl, omega arith, omega arith, omega arith, inl (omega arith), refl))))
-    (λ e. ⊎_elim (λ h. at _ h.2 (inr (inl (omega arith, omega arith, refl, omega arith, omega arith, omega arith, inl (omega arith), refl))))
-    (λ e. ⊎_elim (λ h. at _ h.2 (inr (inl (omega arith, omega arith, refl, omega arith, omega arith, omega arith, inr (omega arith), refl))))
+    (λ e. ⊎_elim
+    (λ h. at _ h.2 (inr (inl (omega arith, omega arith, refl, omega arith, omega arith, omega arith, inl (omega arith), refl))))
+    (λ e. ⊎_elim
+    (λ h. at _ h.2 (inr (inl (omega arith, omega arith, refl, omega arith, omega arith, omega arith, inl (omega arith), refl))))
+    (λ e. ⊎_elim
+    (λ h. at _ h.2 (inr (inl (omega arith, omega arith, refl, omega arith, omega arith, omega arith, inl (omega arith), refl))))
+    (λ e. ⊎_elim
+    (λ h. at _ h.2 (inr (inl (omega arith, omega arith, refl, omega arith, omega arith, omega arith, inr (omega arith), refl))))
     (λ e. ⊎_elim (λ h. at _ h.2 (inr (inr (omega arith, refl, omega arith, omega arith, omega arith, omega arith, refl))))
     (λ e. ⊎_elim (λ h. at _ h.2 (inr (inr (omega arith, refl, omega arith, omega arith, omega arith, omega arith, refl))))
     (λ e. ⊎_elim (λ h. at _ h.2 (inr (inr (omega arith, refl, omega arith, omega arith, omega arith, omega arith, refl))))
@@ -126,7 +139,8 @@ same_front x y e = cc
 abbrev Stands : Front → List ℕ → Type 0
 Stands x w = IsScalar x.char × (encode_utf8 x.char ++ x.rest ≡ w)
 
-stands : (c : ℕ) (front rest w : List ℕ) (x : Front) → IsOf c front → front ++ rest ≡ w → Some (record { char = c; rest = rest }) ≡ Some x → Stands x w
+stands : (c : ℕ) (front rest w : List ℕ) (x : Front) → IsOf c front → front ++ rest ≡ w
+    → Some (record { char = c; rest = rest }) ≡ Some x → Stands x w
 stands c front rest w x of is e = subst (λ (y : Front). Stands y w) (same_front _ _ e) (of.0, ap (λ u. u ++ rest) of.1 ∙ is)
 
 tail_read : (n bits : ℕ) (w : List ℕ) (x : Front) → read_tails (suc n) bits w ≡ Some x
@@ -139,25 +153,30 @@ stands_behind a l [] x f e = absurd cc
 stands_behind a l (b ∷ w) x (inl (p, q, bits, low, high, tails)) e =
     let (t, more) = through _ _ x e in
     let (h, k) = range_is l.low l.high b t in
-    let read : read_tails 0 (six_more (a - 192) b) w ≡ Some x = subst (λ (n : ℕ). read_tails n (six_more (a - 192) b) w ≡ Some x) tails (subst (λ (n : ℕ). read_tails l.tails (six_more n b) w ≡ Some x) bits more) in
+    let read : read_tails 0 (six_more (a - 192) b) w ≡ Some x = subst (λ (n : ℕ). read_tails n (six_more (a - 192) b) w ≡ Some x) tails
+    (subst (λ (n : ℕ). read_tails l.tails (six_more n b) w ≡ Some x) bits more) in
     stands _ _ w (a ∷ b ∷ w) x (of_two a b p q (omega arith) (omega arith)) refl read
 stands_behind a l (b ∷ w) x (inr (inl (p, q, bits, low, high, least, gap, tails))) e =
     let (t, more) = through _ _ x e in
     let (h, k) = range_is l.low l.high b t in
-    let read : read_tails 1 (six_more (a - 224) b) w ≡ Some x = subst (λ (n : ℕ). read_tails n (six_more (a - 224) b) w ≡ Some x) tails (subst (λ (n : ℕ). read_tails l.tails (six_more n b) w ≡ Some x) bits more) in
+    let read : read_tails 1 (six_more (a - 224) b) w ≡ Some x = subst (λ (n : ℕ). read_tails n (six_more (a - 224) b) w ≡ Some x) tails
+    (subst (λ (n : ℕ). read_tails l.tails (six_more n b) w ≡ Some x) bits more) in
     let (d, u, is, g, last) = tail_read 0 _ w x read in
     let over : 32 ≤ six_more (a - 224) b = omega arith in
-    let between : (six_more (a - 224) b < 864) ⊎ (896 ≤ six_more (a - 224) b) = ⊎_elim (λ m. inl (omega arith)) (λ m. inr (omega arith)) gap in
+    let between : (six_more (a - 224) b < 864) ⊎ (896 ≤ six_more (a - 224) b) =
+    ⊎_elim (λ m. inl (omega arith)) (λ m. inr (omega arith)) gap in
     stands _ _ u (a ∷ b ∷ w) x (of_three a b d p q (omega arith) (omega arith) g.0 g.1 over between) (ap (λ v. a ∷ b ∷ v) (sym is)) last
 stands_behind a l (b ∷ w) x (inr (inr (p, bits, low, high, least, most, tails))) e =
     let (t, more) = through _ _ x e in
     let (h, k) = range_is l.low l.high b t in
-    let read : read_tails 2 (six_more (a - 240) b) w ≡ Some x = subst (λ (n : ℕ). read_tails n (six_more (a - 240) b) w ≡ Some x) tails (subst (λ (n : ℕ). read_tails l.tails (six_more n b) w ≡ Some x) bits more) in
+    let read : read_tails 2 (six_more (a - 240) b) w ≡ Some x = subst (λ (n : ℕ). read_tails n (six_more (a - 240) b) w ≡ Some x) tails
+    (subst (λ (n : ℕ). read_tails l.tails (six_more n b) w ≡ Some x) bits more) in
     let (d, u, is, g, next) = tail_read 1 _ w x read in
     let (y, v, is2, m, last) = tail_read 0 _ u x next in
     let over : 16 ≤ six_more (a - 240) b = omega arith in
     let top : six_more (a - 240) b < 272 = omega arith in
-    stands _ _ v (a ∷ b ∷ w) x (of_four a b d y p (omega arith) (omega arith) g.0 g.1 m.0 m.1 over top) (ap (λ s. a ∷ b ∷ d ∷ s) (sym is2) ∙ ap (λ s. a ∷ b ∷ s) (sym is)) last
+    stands _ _ v (a ∷ b ∷ w) x (of_four a b d y p (omega arith) (omega arith) g.0 g.1 m.0 m.1 over top)
+    (ap (λ s. a ∷ b ∷ d ∷ s) (sym is2) ∙ ap (λ s. a ∷ b ∷ s) (sym is)) last
 
 stands_led : (a : ℕ) (o : Option Lead) (w : List ℕ) (x : Front) → lead a ≡ o → read_led o w ≡ Some x → Stands x (a ∷ w)
 stands_led a None w x is e = absurd cc
@@ -168,16 +187,21 @@ unfolding utf8_step
 utf8_sound [] x e = absurd cc
 utf8_sound (a ∷ w) x e = by (is_in_range 0x00 0x7F a) refl e
   where
-    by : (t : Bool) → is_in_range 0x00 0x7F a ≡ t → (if t then Some (record { char = a; rest = w }) else read_led (lead a) w) ≡ Some x → Stands x (a ∷ w)
-    by true is e = let (p, q) = range_is 0x00 0x7F a is in stands a (a ∷ []) w (a ∷ w) x (low_scalar a (omega arith), encode_ascii a (omega arith)) refl e
+    by : (t : Bool) → is_in_range 0x00 0x7F a ≡ t
+        → (if t then Some (record { char = a; rest = w }) else read_led (lead a) w) ≡ Some x → Stands x (a ∷ w)
+    by true is e =
+        let (p, q) = range_is 0x00 0x7F a is in
+        stands a (a ∷ []) w (a ∷ w) x (low_scalar a (omega arith), encode_ascii a (omega arith)) refl e
     by false is e = stands_led a (lead a) w x refl e
 
 -- ---- the octets of a character are read as it
 
-led : (a b : ℕ) (l : Lead) (w : List ℕ) → 128 ≤ a → lead a ≡ Some l → l.low ≤ b → b ≤ l.high → utf8_step (a ∷ b ∷ w) ≡ read_tails l.tails (six_more l.bits b) w
+led : (a b : ℕ) (l : Lead) (w : List ℕ) → 128 ≤ a → lead a ≡ Some l → l.low ≤ b → b ≤ l.high
+    → utf8_step (a ∷ b ∷ w) ≡ read_tails l.tails (six_more l.bits b) w
 unfolding utf8_step
 led a b l w high is h k =
-    cond-false _ _ _ (above_range 0x00 0x7F a (omega arith)) ∙ ap (λ o. read_led o (b ∷ w)) is ∙ cond-true _ _ _ (in_range l.low l.high b h k)
+    cond-false _ _ _ (above_range 0x00 0x7F a (omega arith)) ∙ ap (λ o. read_led o (b ∷ w)) is
+    ∙ cond-true _ _ _ (in_range l.low l.high b h k)
 
 tail_is : (n bits b : ℕ) (w : List ℕ) → 128 ≤ b → b ≤ 191 → read_tails (suc n) bits (b ∷ w) ≡ read_tails n (six_more bits b) w
 tail_is n bits b w h k = cond-true _ _ _ (in_range 128 191 b h k)
@@ -192,19 +216,56 @@ lead_E1 : (a : ℕ) → 0xE1 ≤ a → a ≤ 0xEC → lead a ≡ Some (record { 
 lead_E1 a p q = rw (above_range 0xC2 0xDF a (omega arith), above_range 0xE0 0xE0 a (omega arith), in_range 0xE1 0xEC a p q)
 
 lead_ED : (a : ℕ) → 0xED ≤ a → a ≤ 0xED → lead a ≡ Some (record { bits = a - 0xE0; low = 0x80; high = 0x9F; tails = 1 })
-lead_ED a p q = rw (above_range 0xC2 0xDF a (omega arith), above_range 0xE0 0xE0 a (omega arith), above_range 0xE1 0xEC a (omega arith), in_range 0xED 0xED a p q)
+lead_ED a p q = rw (
+  above_range 0xC2 0xDF a (omega arith),
+  above_range 0xE0 0xE0 a (omega arith),
+  above_range 0xE1 0xEC a (omega arith),
+  in_range 0xED 0xED a p q,
+)
 
 lead_EE : (a : ℕ) → 0xEE ≤ a → a ≤ 0xEF → lead a ≡ Some (record { bits = a - 0xE0; low = 0x80; high = 0xBF; tails = 1 })
-lead_EE a p q = rw (above_range 0xC2 0xDF a (omega arith), above_range 0xE0 0xE0 a (omega arith), above_range 0xE1 0xEC a (omega arith), above_range 0xED 0xED a (omega arith), in_range 0xEE 0xEF a p q)
+lead_EE a p q = rw (
+  above_range 0xC2 0xDF a (omega arith),
+  above_range 0xE0 0xE0 a (omega arith),
+  above_range 0xE1 0xEC a (omega arith),
+  above_range 0xED 0xED a (omega arith),
+  in_range 0xEE 0xEF a p q,
+)
 
 lead_F0 : (a : ℕ) → 0xF0 ≤ a → a ≤ 0xF0 → lead a ≡ Some (record { bits = a - 0xF0; low = 0x90; high = 0xBF; tails = 2 })
-lead_F0 a p q = rw (above_range 0xC2 0xDF a (omega arith), above_range 0xE0 0xE0 a (omega arith), above_range 0xE1 0xEC a (omega arith), above_range 0xED 0xED a (omega arith), above_range 0xEE 0xEF a (omega arith), in_range 0xF0 0xF0 a p q)
+lead_F0 a p q = rw (
+  above_range 0xC2 0xDF a (omega arith),
+  above_range 0xE0 0xE0 a (omega arith),
+  above_range 0xE1 0xEC a (omega arith),
+  above_range 0xED 0xED a (omega arith),
+  above_range 0xEE 0xEF a (omega arith),
+  in_range 0xF0 0xF0 a p q,
+)
 
 lead_F1 : (a : ℕ) → 0xF1 ≤ a → a ≤ 0xF3 → lead a ≡ Some (record { bits = a - 0xF0; low = 0x80; high = 0xBF; tails = 2 })
-lead_F1 a p q = rw (above_range 0xC2 0xDF a (omega arith), above_range 0xE0 0xE0 a (omega arith), above_range 0xE1 0xEC a (omega arith), above_range 0xED 0xED a (omega arith), above_range 0xEE 0xEF a (omega arith), above_range 0xF0 0xF0 a (omega arith), in_range 0xF1 0xF3 a p q)
+lead_F1 a p q =
+    rw (
+      above_range 0xC2 0xDF a (omega arith),
+      above_range 0xE0 0xE0 a (omega arith),
+      above_range 0xE1 0xEC a (omega arith),
+      above_range
+          0xED 0xED a (omega arith),
+      above_range 0xEE 0xEF a (omega arith),
+      above_range 0xF0 0xF0 a (omega arith),
+      in_range 0xF1 0xF3 a p q,
+    )
 
 lead_F4 : (a : ℕ) → 0xF4 ≤ a → a ≤ 0xF4 → lead a ≡ Some (record { bits = a - 0xF0; low = 0x80; high = 0x8F; tails = 2 })
-lead_F4 a p q = rw (above_range 0xC2 0xDF a (omega arith), above_range 0xE0 0xE0 a (omega arith), above_range 0xE1 0xEC a (omega arith), above_range 0xED 0xED a (omega arith), above_range 0xEE 0xEF a (omega arith), above_range 0xF0 0xF0 a (omega arith), above_range 0xF1 0xF3 a (omega arith), in_range 0xF4 0xF4 a p q)
+lead_F4 a p q = rw (
+  above_range 0xC2 0xDF a (omega arith),
+  above_range 0xE0 0xE0 a (omega arith),
+  above_range 0xE1 0xEC a (omega arith),
+  above_range 0xED 0xED a (omega arith),
+  above_range 0xEE 0xEF a (omega arith),
+  above_range 0xF0 0xF0 a (omega arith),
+  above_range 0xF1 0xF3 a (omega arith),
+  in_range 0xF4 0xF4 a p q,
+)
 
 order : (m n : ℕ) → (m < n) ⊎ (n ≤ m)
 order m n = grind (arith, nat_tests)
@@ -255,7 +316,8 @@ reads_three c rest h k s =
     let a = 224 + c / 4096 in
     let b = 128 + (c / 64) % 64 in
     let d = 128 + c % 64 in
-    let row = row_three a b (omega arith) (omega arith) (omega arith) (omega arith) (λ m. omega arith) (λ m n. ⊎_elim (λ l. omega arith) (λ l. omega arith) s) in
+    let row = row_three a b (omega arith) (omega arith) (omega arith) (omega arith) (λ m. omega arith)
+    (λ m n. ⊎_elim (λ l. omega arith) (λ l. omega arith) s) in
     reads_at _ (a ∷ b ∷ d ∷ rest) (six_more (six_more (a - 224) b) d) c rest (ap (λ u. u ++ rest) (encode_three c h k)) (omega arith)
     (led_by a b (a - 224) 1 (d ∷ rest) (omega arith) row ∙ tail_is 0 _ d rest (omega arith) (omega arith))
 
@@ -266,8 +328,10 @@ reads_four c rest h k =
     let d = 128 + (c / 64) % 64 in
     let x = 128 + c % 64 in
     let row = row_four a b (omega arith) (omega arith) (omega arith) (omega arith) (λ m. omega arith) (λ m. omega arith) in
-    reads_at _ (a ∷ b ∷ d ∷ x ∷ rest) (six_more (six_more (six_more (a - 240) b) d) x) c rest (ap (λ u. u ++ rest) (encode_four c h)) (omega arith)
-    (led_by a b (a - 240) 2 (d ∷ x ∷ rest) (omega arith) row ∙ tail_is 1 _ d (x ∷ rest) (omega arith) (omega arith) ∙ tail_is 0 _ x rest (omega arith) (omega arith))
+    reads_at _ (a ∷ b ∷ d ∷ x ∷ rest) (six_more (six_more (six_more (a - 240) b) d) x) c rest
+    (ap (λ u. u ++ rest) (encode_four c h)) (omega arith)
+    (led_by a b (a - 240) 2 (d ∷ x ∷ rest) (omega arith) row ∙ tail_is 1 _ d (x ∷ rest) (omega arith) (omega arith)
+    ∙ tail_is 0 _ x rest (omega arith) (omega arith))
 
 pub utf8_reads : (c : ℕ) (rest : List ℕ) → IsScalar c → utf8_step (encode_utf8 c ++ rest) ≡ Some (record { char = c; rest = rest })
 utf8_reads c rest s =

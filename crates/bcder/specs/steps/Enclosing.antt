@@ -9,7 +9,8 @@ use Rattle.bcder.specs.declared.mode.Mode.{Mode}
 use Rattle.bcder.specs.declared.mode.Mode.TheVariants.{Cer}
 use Rattle.bcder.specs.x690.Identifier.{Tag, IsValueTag}
 use Rattle.bcder.specs.x690.Octets.{fits_length, constructed_length, closing, enclosed, enclosed_size}
-use Rattle.bcder.specs.calls.Meaning.{Encoded, Meaning, ContentsMeaning, ValueMeans, primitive_meaning, constructed_meaning, fits_enclosed, enclosed_refusal}
+use Rattle.bcder.specs.calls.Meaning.{Encoded, Meaning, ContentsMeaning, ValueMeans, primitive_meaning}
+use Rattle.bcder.specs.calls.Meaning.{constructed_meaning, fits_enclosed, enclosed_refusal}
 use Rattle.bcder.specs.calls.Encoders.{RefusesBy, WroteOf}
 
 -- r is the size of contents octets that a primitive value may have, or the refusal of that value
@@ -32,7 +33,8 @@ abbrev pub TellsLength : Mode → ℕ → Type 0
 TellsLength mode n = (constructed_length mode n ≡ Definite n) × (fits_length (Definite n) ≡ true) × (closing mode ≡ [])
 
 -- how the writing went of the value with this size in its header
-abbrev pub WritesEnclosed : {W : Type 0} → (W → Option (List ℕ)) → Both (MutBor W) (MutBor W) → Tag → ℕ → Mode → (Meaning → Type 0) → Type 0 → Result (Unit {0}) WriteError → Type 0
+abbrev pub WritesEnclosed : {W : Type 0} → (W → Option (List ℕ)) → Both (MutBor W) (MutBor W) → Tag → ℕ → Mode → (Meaning → Type 0) → Type 0
+    → Result (Unit {0}) WriteError → Type 0
 WritesEnclosed contents target t size mode M lacks r =
     (x : Encoded) → M (Ok x) → constructed_length mode size ≡ constructed_length mode (length x.octets)
     → WroteOf lacks (enclosed mode t x.octets) (contents target.entry.now) (contents target.exit.now) r

@@ -29,7 +29,8 @@ module _ {E : Type 0} (c d : Reading) where
 
 -- the header of a primitive value of the tag was passed, with n contents octets; or there is none; or it was refused,
 -- as that of a constructed value is
-pub record EntersOctets {E : Type 0} (why : E → Cause ContentError) (t : Tag) (c : Reading) (r : Result (Option ℕ) E) (d : Reading) : Type 0 where
+pub record EntersOctets {E : Type 0} (why : E → Cause ContentError) (t : Tag) (c : Reading) (r : Result (Option ℕ) E)
+    (d : Reading) : Type 0 where
   pub entered : IfOk r (λ o. IfSome o (λ n. Enters c (header_of (octets_header t n)) d))
   pub none : IfOk r (λ o. IfNone o (HasNone (tagged t) c d))
   pub refused : IfErr r (λ e. RefusesHeader why (tagged t) c e d ⊎ HasForm true (tagged t) c × IsOfContent (why e))

@@ -41,10 +41,12 @@ IsTaken Indefinite left = Unit {0}
 
 -- the content behind a header that was passed
 abbrev pub IsBehind : {S : Type 0} → (S → Stream) → MutBor (Constructed S) → CodeHeader → Reading → Type 0
-IsBehind stream c h i = Hands (of_constructed stream c.now).mode (is_constructed h.form) (len_of h.form) (of_constructed stream c.now).owed (of_constructed stream c.now).stream.rest i
+IsBehind stream c h i = Hands (of_constructed stream c.now).mode (is_constructed h.form) (len_of h.form) (of_constructed stream c.now).owed
+    (of_constructed stream c.now).stream.rest i
 
 -- a closure ran on this content
-abbrev pub RanInside : {C T E : Type 0} → (E → Cause ContentError) → (C → Reading) → (Tag → MutBor C → Result T E → MutBor C → Type 0) → Reading → Tag → Result T E → Bool → Stream → Option ℕ → Type 0
+abbrev pub RanInside : {C T E : Type 0} → (E → Cause ContentError) → (C → Reading) → (Tag → MutBor C → Result T E → MutBor C → Type 0)
+    → Reading → Tag → Result T E → Bool → Stream → Option ℕ → Type 0
 RanInside why view post i t r mark s o = RanOver why view post i.stream i.owed i.kind i.mode t r mark s o
 
 -- content made usable again
@@ -52,7 +54,11 @@ abbrev pub opened : Reading → Reading
 opened c = record { stream = c.stream; owed = c.owed; kind = c.kind; state = Open; mode = c.mode; marked = c.marked; name = c.name }
 
 -- what happened to the value whose header was passed: it has the refused form, or its content was refused, or taken
-pub data TakesBehind {C T X : Type 0} (view : C → Reading) (post : Tag → MutBor C → Result T (DecodeError X) → MutBor C → Type 0) (form : Option Bool) (c : Reading) (h : Header) (r : Result (Option T) (DecodeError X)) (d : Reading) : Type 0 where
-  of_form : (e : DecodeError X) → ◌≡◌ {A = Result (Option T) (DecodeError X)} r (Err e) → form ≡ Some h.form → IsRefusal e → d ≡ c → TakesBehind view post form c h r d
-  refused : (e : DecodeError X) → ◌≡◌ {A = Result (Option T) (DecodeError X)} r (Err e) → TakesContent {T = T} cause_of view post c h (Err e) d → TakesBehind view post form c h r d
-  taken : (x : T) (m : Reading) → ◌≡◌ {A = Result (Option T) (DecodeError X)} r (Ok (Some x)) → TakesContent cause_of view post c h (Ok x) m → d ≡ opened m → TakesBehind view post form c h r d
+pub data TakesBehind {C T X : Type 0} (view : C → Reading) (post : Tag → MutBor C → Result T (DecodeError X) → MutBor C → Type 0)
+    (form : Option Bool) (c : Reading) (h : Header) (r : Result (Option T) (DecodeError X)) (d : Reading) : Type 0 where
+  of_form : (e : DecodeError X) → ◌≡◌ {A = Result (Option T) (DecodeError X)} r (Err e) → form ≡ Some h.form → IsRefusal e → d ≡ c
+      → TakesBehind view post form c h r d
+  refused : (e : DecodeError X) → ◌≡◌ {A = Result (Option T) (DecodeError X)} r (Err e)
+      → TakesContent {T = T} cause_of view post c h (Err e) d → TakesBehind view post form c h r d
+  taken : (x : T) (m : Reading) → ◌≡◌ {A = Result (Option T) (DecodeError X)} r (Ok (Some x)) → TakesContent cause_of view post c h (Ok x) m
+      → d ≡ opened m → TakesBehind view post form c h r d

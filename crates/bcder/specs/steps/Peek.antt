@@ -99,5 +99,6 @@ abbrev pub IsFrontOf : Mode → Asked → ℕ → Header → Peeked → Type 0
 IsFrontOf mode asked n h peeked.Nothing = ⊥
 IsFrontOf mode asked n h peeked.Other = IsAsked asked h.tag → ⊥
 IsFrontOf mode asked n h (peeked.End k) = ⊥
-IsFrontOf mode asked n h (peeked.Front g k) = (k ≡ n) × (header_of g ≡ h) × IsAsked asked h.tag × (is_value_tag h.tag ≡ true) × (may_have mode h.form h.len ≡ true)
+IsFrontOf mode asked n h (peeked.Front g k) =
+    (k ≡ n) × (header_of g ≡ h) × IsAsked asked h.tag × (is_value_tag h.tag ≡ true) × (may_have mode h.form h.len ≡ true)
 IsFrontOf mode asked n h (peeked.Refused v) = ⊥

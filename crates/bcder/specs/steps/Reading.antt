@@ -1,5 +1,6 @@
 -- Reading from left to right: what comes next, and the octets after it.
-use Rattle.std.specs.Prelude.{◌≡◌, ℕ, zero, suc, ◌+◌, ◌-◌, ◌*◌, ◌%◌, ◌^◌, Bool, true, false, List, [], ◌∷◌, length, take, drop, Option, Some, None, option_map, option_and_then, nat_lt, nat_le, ◌==◌, if◌then◌else◌}
+use Rattle.std.specs.Prelude.{◌≡◌, ℕ, zero, suc, ◌+◌, ◌-◌, ◌*◌, ◌%◌, ◌^◌, Bool, true, false, List, [], ◌∷◌, length, take, drop, Option}
+use Rattle.std.specs.Prelude.{Some, None, option_map, option_and_then, nat_lt, nat_le, ◌==◌, if◌then◌else◌}
 use Rattle.bcder.specs.declared.mode.Mode.{Mode}
 use Rattle.bcder.specs.declared.mode.Mode.TheVariants.{Ber, Cer, Der}
 use Rattle.bcder.specs.x690.Identifier.{AreOctets, Class, universal, application, context_specific, private, Tag, is_value_tag}
@@ -81,18 +82,21 @@ read_end mode (suc b ∷ w) = None
 
 -- identifier octets and length octets, whatever follows them
 unfoldable pub read_front : Mode → List ℕ → Option (Header × List ℕ)
-read_front mode w = option_and_then (λ i. option_map (λ l. (record { tag = i.0; form = i.1; len = l.0 }, l.1)) (read_length mode i.2)) (read_identifier w)
+read_front mode w =
+    option_and_then (λ i. option_map (λ l. (record { tag = i.0; form = i.1; len = l.0 }, l.1)) (read_length mode i.2)) (read_identifier w)
 
 -- identifier octets and length octets of a value
 unfoldable pub read_header : Mode → List ℕ → Option (Header × List ℕ)
 read_header mode w =
     option_and_then
-    (λ i. if is_value_tag i.0 then option_and_then (λ l. if may_have mode i.1 l.0 then Some (record { tag = i.0; form = i.1; len = l.0 }, l.1) else None) (read_length mode i.2) else None)
+    (λ i. if is_value_tag i.0 then option_and_then (λ l. if may_have mode i.1 l.0
+    then Some (record { tag = i.0; form = i.1; len = l.0 }, l.1) else None) (read_length mode i.2) else None)
     (read_identifier w)
 
 -- in each mode these two octets are the header of a primitive value of n contents octets, whatever follows
 abbrev pub BeginPrimitive : ℕ → ℕ → Type 0
-BeginPrimitive first n = (mode : Mode) (rest : List ℕ) → (t : Tag) × (read_header mode (first ∷ n ∷ rest) ≡ Some (record { tag = t; form = false; len = Definite n }, rest))
+BeginPrimitive first n = (mode : Mode) (rest : List ℕ)
+    → (t : Tag) × (read_header mode (first ∷ n ∷ rest) ≡ Some (record { tag = t; form = false; len = Definite n }, rest))
 
 -- values up to the last octet, or up to an end marker if `marked`
 abbrev pub Inside : Type 0
@@ -102,7 +106,8 @@ abbrev pub read_contents : Inside → Tag → Bool → Length → List ℕ → O
 read_contents inside t false Indefinite w = None
 read_contents inside t false (Definite n) w = if nat_lt (length w) n then None else Some (primitive t (take n w), drop n w)
 read_contents inside t true Indefinite w = option_map (λ ts. (constructed t ts.0, ts.1)) (inside true w)
-read_contents inside t true (Definite n) w = if nat_lt (length w) n then None else option_map (λ ts. (constructed t ts.0, drop n w)) (inside false (take n w))
+read_contents inside t true (Definite n) w =
+    if nat_lt (length w) n then None else option_map (λ ts. (constructed t ts.0, drop n w)) (inside false (take n w))
 
 unfoldable pub read_value : Mode → Inside → List ℕ → Option (Tree × List ℕ)
 read_value mode inside w = option_and_then (λ h. read_contents inside h.0.tag h.0.form h.0.len h.1) (read_header mode w)

@@ -1,5 +1,6 @@
 -- What private steps return that write octets in segments.
-use Rattle.std.specs.Prelude.{◌≡◌, ℕ, ◌+◌, ◌-◌, ◌*◌, ◌<◌, ◌⊎◌, true, false, List, [], ◌∷◌, ◌++◌, length, take, drop, Option, Result, Ok, Err}
+use Rattle.std.specs.Prelude.{◌≡◌, ℕ, ◌+◌, ◌-◌, ◌*◌, ◌<◌, ◌⊎◌, true, false, List, [], ◌∷◌, ◌++◌}
+use Rattle.std.specs.Prelude.{length, take, drop, Option, Result, Ok, Err}
 use Rattle.std.specs.Borrow.{MutBor}
 use Rattle.std.specs.Io.KnownBytes.{Appends}
 use denote.Triple.Both.{Both}
@@ -63,7 +64,8 @@ PartWritten p part why old new (Err f) = (v : List ℕ) → IsProgress p (part +
 
 -- a segment was begun, if none was
 abbrev pub SegmentBegun : Progress → WriteError → Option (List ℕ) → Option (List ℕ) → Result Progress Failed → Type 0
-SegmentBegun p why old new (Ok q) = (0 < q.left) × (q.left + q.behind ≡ p.left + p.behind) × ((v : List ℕ) → IsProgress p v → Advanced p v q v old new)
+SegmentBegun p why old new (Ok q) =
+    (0 < q.left) × (q.left + q.behind ≡ p.left + p.behind) × ((v : List ℕ) → IsProgress p v → Advanced p v q v old new)
 SegmentBegun p why old new (Err f) = (v : List ℕ) → IsProgress p v → WroteOf ⊥ (to_write p v) old new (Err why)
 
 -- the target, at entry and at exit
@@ -76,4 +78,5 @@ module _ {W : Type 0} (contents : W → Option (List ℕ)) (target : Both (MutBo
 
   -- the octets of what M says were written as a primitive value
   abbrev pub WritesInside : (Meaning → Type 0) → Type 0 → Result (Unit {0}) WriteError → Type 0
-  WritesInside M lacks r = (e : Encoded) → M (Ok e) → WroteOf lacks (definite octet_string_tag false e.octets) (contents target.entry.now) (contents target.exit.now) r
+  WritesInside M lacks r = (e : Encoded) → M (Ok e)
+      → WroteOf lacks (definite octet_string_tag false e.octets) (contents target.entry.now) (contents target.exit.now) r

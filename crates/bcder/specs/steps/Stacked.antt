@@ -1,5 +1,6 @@
 -- The values that are open while a value is passed over, and what remains of them.
-use Rattle.std.specs.Prelude.{◌≡◌, ℕ, zero, suc, ◌+◌, ◌-◌, ◌*◌, ◌^◌, ◌<◌, ◌≤◌, Bool, true, false, List, [], ◌∷◌, ◌++◌, length, drop, Option, Some, None, Result, Ok, IfErr, OnOk, OnErr, option_map, option_and_then, reverse}
+use Rattle.std.specs.Prelude.{◌≡◌, ℕ, zero, suc, ◌+◌, ◌-◌, ◌*◌, ◌^◌, ◌<◌, ◌≤◌, Bool, true, false, List, [], ◌∷◌, ◌++◌, length, drop}
+use Rattle.std.specs.Prelude.{Option, Some, None, Result, Ok, IfErr, OnOk, OnErr, option_map, option_and_then, reverse}
 use Rattle.std.specs.Borrow.{MutBor}
 use denote.Triple.Both.{Both}
 use Rattle.smallvec.specs.SmallVec.{SmallVec}
@@ -103,7 +104,8 @@ if_all (suc m) r = None
 unfoldable pub ends : Mode → List Entry → List ℕ → ℕ → List ℕ → Reached
 ends mode [] x m y = Some ([], (x, m, y))
 ends mode (Definite o ∷ es) x m y =
-    if_all m (option_and_then (λ ts. after_headings (preorders ts.0 (suc (length es))) (ends mode es (cut o y) (lack o y) (past o y).octets)) (read_list mode false x))
+    if_all m (option_and_then (λ ts. after_headings (preorders ts.0 (suc (length es)))
+    (ends mode es (cut o y) (lack o y) (past o y).octets)) (read_list mode false x))
 ends mode (Indefinite ∷ es) x m y =
     option_and_then (λ ts. after_headings (preorders ts.0 (suc (length es))) (ends mode es ts.1 m y)) (read_list mode true x)
 
@@ -136,7 +138,8 @@ entry_of len.Indefinite o = Indefinite
 
 -- the content behind a header was entered: its octets were passed over, or the value is open
 pub data GoesInto (h : Header) (es : List Entry) (s : Stream) (o : Option ℕ) (fs : List Entry) (t : Stream) (p : Option ℕ) : Type 0 where
-  octets : (n : ℕ) → h.form ≡ false → h.len ≡ len.Definite n → n ≤ length s.rest → fs ≡ es → t.rest ≡ drop n s.rest → t.kept ≡ s.kept → p ≡ popped o n (Some 0) → GoesInto h es s o fs t p
+  octets : (n : ℕ) → h.form ≡ false → h.len ≡ len.Definite n → n ≤ length s.rest → fs ≡ es → t.rest ≡ drop n s.rest → t.kept ≡ s.kept
+      → p ≡ popped o n (Some 0) → GoesInto h es s o fs t p
   values : h.form ≡ true → fs ≡ entry_of h.len o ∷ es → t ≡ s → p ≡ limit_inside h.len o → GoesInto h es s o fs t p
 
 -- the innermost open value ended, and was left
@@ -168,7 +171,8 @@ pub record PassesCalls (mode : Mode) (s : Stream) (o : Option ℕ) (calls : List
   pub stand : HeadersStand mode calls (cut o s.rest) (cut p t.rest)
 
 -- the closure was called at the header h and at the headings after it, and these values are open
-pub record IsUnderWay (mode : Mode) (h : Header) (s : Stream) (o : Option ℕ) (calls : List Heading) (es : List Entry) (t : Stream) (p : Option ℕ) : Type 0 where
+pub record IsUnderWay (mode : Mode) (h : Header) (s : Stream) (o : Option ℕ) (calls : List Heading) (es : List Entry) (t : Stream)
+    (p : Option ℕ) : Type 0 where
   pub outcome : due mode [] h o s.rest ≡ after_headings (heading h 0 ∷ calls) (remain mode es p t.rest)
   pub passes : PassesCalls mode s o calls t (unwound es p)
   pub part : IsPart (length es) (heading h 0 ∷ calls)
@@ -177,7 +181,8 @@ pub record IsUnderWay (mode : Mode) (h : Header) (s : Stream) (o : Option ℕ) (
 -- the closure was called at the header h and then at these headings, the last of which was refused or not entered
 pub record IsBroken (mode : Mode) (h : Header) (s : Stream) (o : Option ℕ) (calls : List Heading) (t : Stream) (p : Option ℕ) : Type 0 where
   pub some : (u : Tree) × (more : List Heading) × (preorder u 0 ≡ heading h 0 ∷ (calls ++ more))
-  pub one : (u : Tree) (x : List ℕ) → read_contents (read_list mode) h.tag h.form h.len (cut o s.rest) ≡ Some (u, x) → (more : List Heading) × (preorder u 0 ≡ heading h 0 ∷ (calls ++ more))
+  pub one : (u : Tree) (x : List ℕ) → read_contents (read_list mode) h.tag h.form h.len (cut o s.rest) ≡ Some (u, x)
+      → (more : List Heading) × (preorder u 0 ≡ heading h 0 ∷ (calls ++ more))
   pub passes : PassesCalls mode s o calls t p
 
 -- ---- what calls over the stack did
@@ -189,7 +194,8 @@ pub data StaysAt {X : Type 0} (h : Header) (n : ℕ) (s : Stream) (e : Stop X) (
   too_few : (m : ℕ) → h.form ≡ false → h.len ≡ len.Definite m → length s.rest < m → IsOfContent (stop_cause e) → StaysAt h n s e t
 
 -- the content behind a header was entered, or not
-pub record GoneBy {T X : Type 0} (h : Header) (es : List Entry) (s : Stream) (o : Option ℕ) (r : Result T (Stop X)) (fs : List Entry) (t : Stream) (p : Option ℕ) : Type 0 where
+pub record GoneBy {T X : Type 0} (h : Header) (es : List Entry) (s : Stream) (o : Option ℕ) (r : Result T (Stop X)) (fs : List Entry)
+    (t : Stream) (p : Option ℕ) : Type 0 where
   pub goes : OnOk r (GoesInto h es s o fs t p)
   pub no_fault : OnOk r (t.faults ≡ s.faults)
   pub stays : IfErr r (λ e. StaysAt h (length es) s e t)
@@ -205,10 +211,12 @@ module _ {F X : Type 0} (step : Steps F ContentError) where
     refused : (x : ContentError) → Refused step f (heading h n) x g → e ≡ interrupt.Closure x → StaysOut h n s f e g t
     wanted : step f h.tag h.form n (Ok tt) g → h.form ≡ true → 4 ≤ n → interrupt_cause e ≡ of_memory → StaysOut h n s f e g t
     failing : step f h.tag h.form n (Ok tt) g → interrupt_cause e ≡ of_source → Grew s.faults t.faults → StaysOut h n s f e g t
-    few : (m : ℕ) → step f h.tag h.form n (Ok tt) g → h.form ≡ false → h.len ≡ len.Definite m → length s.rest < m → IsOfContent (interrupt_cause e) → StaysOut h n s f e g t
+    few : (m : ℕ) → step f h.tag h.form n (Ok tt) g → h.form ≡ false → h.len ≡ len.Definite m → length s.rest < m
+        → IsOfContent (interrupt_cause e) → StaysOut h n s f e g t
 
   -- the closure was called at a header that was passed, and the content behind it entered, or not
-  pub record VisitedBy {T : Type 0} (h : Header) (es : List Entry) (s : Stream) (o : Option ℕ) (f : F) (r : Result T (Interrupt X)) (g : F) (fs : List Entry) (t : Stream) (p : Option ℕ) : Type 0 where
+  pub record VisitedBy {T : Type 0} (h : Header) (es : List Entry) (s : Stream) (o : Option ℕ) (f : F) (r : Result T (Interrupt X)) (g : F)
+      (fs : List Entry) (t : Stream) (p : Option ℕ) : Type 0 where
     pub answered : OnOk r (step f h.tag h.form (length es) (Ok tt) g)
     pub goes : OnOk r (GoesInto h es s o fs t p)
     pub no_fault : OnOk r (t.faults ≡ s.faults)
@@ -220,14 +228,23 @@ module _ {F X : Type 0} (step : Steps F ContentError) where
     pub faults : s.faults ≤ t.faults
 
   -- why the content behind a header wasn't passed, and e was returned
-  pub data Breaks (mode : Mode) (h : Header) (s : Stream) (o : Option ℕ) (f : F) (e : Interrupt X) (g : F) (t : Stream) (p : Option ℕ) : Type 0 where
-    by_source : (calls : List Heading) → Called step f (heading h 0 ∷ calls) g → IsBroken mode h s o calls t p → interrupt_cause e ≡ of_source → Grew s.faults t.faults → Breaks mode h s o f e g t p
-    by_content : (calls : List Heading) → Called step f (heading h 0 ∷ calls) g → IsBroken mode h s o calls t p → read_contents (read_list mode) h.tag h.form h.len (cut o s.rest) ≡ None → IsOfContent (interrupt_cause e) → Breaks mode h s o f e g t p
-    by_closure : (calls before : List Heading) (last : Heading) (q : F) (x : ContentError) → heading h 0 ∷ calls ≡ before ++ last ∷ [] → Called step f before q → Refused step q last x g → IsBroken mode h s o calls t p → e ≡ interrupt.Closure x → Breaks mode h s o f e g t p
-    by_memory : (calls before : List Heading) (last : Heading) → heading h 0 ∷ calls ≡ before ++ last ∷ [] → Called step f (heading h 0 ∷ calls) g → last.constructed ≡ true → 4 ≤ last.depth → IsBroken mode h s o calls t p → interrupt_cause e ≡ of_memory → Breaks mode h s o f e g t p
+  pub data Breaks (mode : Mode) (h : Header) (s : Stream) (o : Option ℕ) (f : F) (e : Interrupt X) (g : F) (t : Stream)
+      (p : Option ℕ) : Type 0 where
+    by_source : (calls : List Heading) → Called step f (heading h 0 ∷ calls) g → IsBroken mode h s o calls t p
+        → interrupt_cause e ≡ of_source → Grew s.faults t.faults → Breaks mode h s o f e g t p
+    by_content : (calls : List Heading) → Called step f (heading h 0 ∷ calls) g → IsBroken mode h s o calls t p
+        → read_contents (read_list mode) h.tag h.form h.len (cut o s.rest) ≡ None → IsOfContent (interrupt_cause e)
+        → Breaks mode h s o f e g t p
+    by_closure : (calls before : List Heading) (last : Heading) (q : F) (x : ContentError) → heading h 0 ∷ calls ≡ before ++ last ∷ []
+        → Called step f before q → Refused step q last x g → IsBroken mode h s o calls t p → e ≡ interrupt.Closure x
+        → Breaks mode h s o f e g t p
+    by_memory : (calls before : List Heading) (last : Heading) → heading h 0 ∷ calls ≡ before ++ last ∷ []
+        → Called step f (heading h 0 ∷ calls) g → last.constructed ≡ true → 4 ≤ last.depth → IsBroken mode h s o calls t p
+        → interrupt_cause e ≡ of_memory → Breaks mode h s o f e g t p
 
   -- the content behind a header was passed, while the closure was called, or not
-  pub record RanBy {T : Type 0} (mode : Mode) (h : Header) (s : Stream) (o : Option ℕ) (f : F) (r : Result T (Interrupt X)) (g : F) (t : Stream) (p : Option ℕ) : Type 0 where
+  pub record RanBy {T : Type 0} (mode : Mode) (h : Header) (s : Stream) (o : Option ℕ) (f : F) (r : Result T (Interrupt X)) (g : F)
+      (t : Stream) (p : Option ℕ) : Type 0 where
     pub whole : OnOk r ((calls : List Heading) × Called step f (heading h 0 ∷ calls) g × IsUnderWay mode h s o calls [] t p)
     pub no_fault : OnOk r (t.faults ≡ s.faults)
     pub breaks : IfErr r (λ e. Breaks mode h s o f e g t p)
@@ -264,9 +281,13 @@ abbrev pub limit_in : {S : Type 0} → Constructed S → Option ℕ
 limit_in c = c.source.now.limit
 
 module _ {S : Type 0} (stream : S → Stream) where
-  abbrev pub Gone : {T X : Type 0} → Both (MutBor (Constructed S)) (MutBor (Constructed S)) → Both (MutBor OpenValues) (MutBor OpenValues) → CodeHeader → Result T (Stop X) → Type 0
-  Gone c es h r = GoneBy (header_of h) (entries es.entry.now) (source_of stream c.entry.now) (limit_in c.entry.now) r (entries es.exit.now) (source_of stream c.exit.now) (limit_in c.exit.now)
+  abbrev pub Gone : {T X : Type 0} → Both (MutBor (Constructed S)) (MutBor (Constructed S)) → Both (MutBor OpenValues) (MutBor OpenValues)
+      → CodeHeader → Result T (Stop X) → Type 0
+  Gone c es h r = GoneBy (header_of h) (entries es.entry.now) (source_of stream c.entry.now) (limit_in c.entry.now) r (entries es.exit.now)
+      (source_of stream c.exit.now) (limit_in c.exit.now)
 
 module _ {S F : Type 0} (stream : S → Stream) (step : Steps F ContentError) where
-  abbrev pub RanOverSource : {T X : Type 0} → Both (MutBor (LimitedSource S)) (MutBor (LimitedSource S)) → Mode → CodeHeader → Both (MutBor F) (MutBor F) → Result T (Interrupt X) → Type 0
-  RanOverSource c mode h op r = RanBy step mode (header_of h) (stream c.entry.now.source) c.entry.now.limit op.entry.now r op.exit.now (stream c.exit.now.source) c.exit.now.limit
+  abbrev pub RanOverSource : {T X : Type 0} → Both (MutBor (LimitedSource S)) (MutBor (LimitedSource S)) → Mode → CodeHeader
+      → Both (MutBor F) (MutBor F) → Result T (Interrupt X) → Type 0
+  RanOverSource c mode h op r = RanBy step mode (header_of h) (stream c.entry.now.source) c.entry.now.limit op.entry.now r op.exit.now
+      (stream c.exit.now.source) c.exit.now.limit

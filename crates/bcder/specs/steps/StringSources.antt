@@ -9,7 +9,8 @@ use Rattle.bcder.specs.calls.StringStream.{to_come, came, source_stream, HasMore
 
 -- octets were put in the front, as many as were asked for, or all that there are; if that failed, there were others to put there,
 -- and no fewer are there than before
-pub record FillsFront (asked : ℕ) (s : Both (MutBor OctetStringSource) (MutBor OctetStringSource)) (r : Result (Unit {0}) NoMemory) : Type 0 where
+pub record FillsFront (asked : ℕ) (s : Both (MutBor OctetStringSource) (MutBor OctetStringSource))
+    (r : Result (Unit {0}) NoMemory) : Type 0 where
   pub same : to_come s.exit.now ≡ to_come s.entry.now
   pub no_fewer : length s.entry.now.front.octets ≤ length s.exit.now.front.octets
   pub enough : OnOk r ((asked ≤ length s.exit.now.front.octets) ⊎ (all_behind s.exit.now.behind ≡ []))

@@ -71,4 +71,5 @@ module _ {S : Type 0} (stream : S → Stream) (c : Both (MutBor (Constructed S))
 
   -- the content behind a header was walked over
   abbrev pub WalkedOver : {T X : Type 0} → CodeHeader → Result T (Stop X) → Type 0
-  WalkedOver h r = TakesContent stop_cause itself (walked stop_cause) (of_constructed stream c.entry.now) (header_of h) r (of_constructed stream c.exit.now)
+  WalkedOver h r = TakesContent stop_cause itself (walked stop_cause) (of_constructed stream c.entry.now) (header_of h) r
+      (of_constructed stream c.exit.now)

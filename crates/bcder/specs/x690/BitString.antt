@@ -57,7 +57,8 @@ MayHave Der x = AreCleared x.unused x.octets
 -- octets are the contents octets of some bit string in a mode
 abbrev pub BitShape : Mode → List ℕ → Type 0
 BitShape mode [] = ⊥
-BitShape mode (unused ∷ octets) = IsBits (record { unused = unused; octets = octets }) × MayHave mode (record { unused = unused; octets = octets })
+BitShape mode (unused ∷ octets) =
+    IsBits (record { unused = unused; octets = octets }) × MayHave mode (record { unused = unused; octets = octets })
 
 -- octets are the contents octets of this bit string in a mode
 abbrev pub IsBitString : Mode → List ℕ → Bits → Type 0

@@ -11,7 +11,8 @@ WrittenBitsAreTheSame = (mode : Mode) (x : Bits) → bits (as_written mode x) �
 
 -- 11.2.1: in CER and DER bit strings with the same bits are written alike
 abbrev pub SameBitsAreWrittenAlike : Type 0
-SameBitsAreWrittenAlike = (mode : Mode) (x y : Bits) → mode ≢ Ber → IsBits x → IsBits y → AreOctets x.octets → AreOctets y.octets → bits x ≡ bits y → as_written mode x ≡ as_written mode y
+SameBitsAreWrittenAlike = (mode : Mode) (x y : Bits) → mode ≢ Ber → IsBits x → IsBits y → AreOctets x.octets → AreOctets y.octets
+    → bits x ≡ bits y → as_written mode x ≡ as_written mode y
 
 -- contents octets that are read are written back unchanged
 abbrev pub ReadIsWrittenBack : Type 0

@@ -11,11 +11,13 @@ use Rattle.bcder.specs.x690.Preorder.{preorder, preorders}
 
 -- no identifier octets are a prefix of others
 abbrev pub OneIdentifier : Type 0
-OneIdentifier = (t u : Tag) (f g : Bool) (x y : List ℕ) → IsTag t → IsTag u → identifier t f ++ x ≡ identifier u g ++ y → (t ≡ u) × (f ≡ g) × (x ≡ y)
+OneIdentifier = (t u : Tag) (f g : Bool) (x y : List ℕ) → IsTag t → IsTag u → identifier t f ++ x ≡ identifier u g ++ y
+    → (t ≡ u) × (f ≡ g) × (x ≡ y)
 
 -- no length octets are a prefix of others
 abbrev pub OneLength : Type 0
-OneLength = (mode : Mode) (l m : Length) (v w x y : List ℕ) → AreLengthOctets mode l v → AreLengthOctets mode m w → v ++ x ≡ w ++ y → (l ≡ m) × (x ≡ y)
+OneLength = (mode : Mode) (l m : Length) (v w x y : List ℕ) → AreLengthOctets mode l v → AreLengthOctets mode m w
+    → v ++ x ≡ w ++ y → (l ≡ m) × (x ≡ y)
 
 -- no end-of-contents octets are a prefix of others
 abbrev pub OneEnd : Type 0
@@ -45,7 +47,8 @@ OneEncoding = (mode : Mode) → mode ≢ Ber → (ts : Trees) (v w : List ℕ) �
 
 -- in CER and DER two lists that have encodings are equal exactly if these are
 abbrev pub SameWhereEncodingsAre : Type 0
-SameWhereEncodingsAre = (mode : Mode) → mode ≢ Ber → (ts us : Trees) (v w : List ℕ) → AreEncodings mode ts v → AreEncodings mode us w → (ts ≡ us) ↔ (v ≡ w)
+SameWhereEncodingsAre = (mode : Mode) → mode ≢ Ber → (ts us : Trees) (v w : List ℕ) → AreEncodings mode ts v
+    → AreEncodings mode us w → (ts ≡ us) ↔ (v ≡ w)
 
 -- what is an encoding in CER or DER is an encoding in BER
 abbrev pub ValueInBer : Type 0

@@ -1,5 +1,6 @@
 -- Tags and identifier octets (ITU-T X.690, 8.1.2).
-use Rattle.std.specs.Prelude.{◌≢◌, ℕ, ◌+◌, ◌/◌, ◌%◌, ◌^◌, ◌<◌, Bool, true, false, List, [], ◌∷◌, slice_index, nat_lt, if◌then◌else◌, zero, suc}
+use Rattle.std.specs.Prelude.{◌≢◌, ℕ, ◌+◌, ◌/◌, ◌%◌, ◌^◌, ◌<◌, Bool, true, false, List, [], ◌∷◌}
+use Rattle.std.specs.Prelude.{slice_index, nat_lt, if◌then◌else◌, zero, suc}
 
 -- each number in the list is an octet: below 256
 abbrev pub AreOctets : List ℕ → Type 0

@@ -1,5 +1,6 @@
 -- Contents octets of integers and booleans (ITU-T X.690, 8.2, 8.3, 11.1).
-use Rattle.std.specs.Prelude.{◌≡◌, ℕ, zero, suc, ◌+◌, ◌/◌, ◌%◌, ◌-◌, ◌^◌, ◌≤◌, ◌<◌, ℤ, pos, negsuc, ◌-ℤ◌, Bool, true, false, List, [], ◌∷◌, ◌++◌, length, nat_lt, nat_le, not, ◌==◌, if◌then◌else◌, Option, Some, None}
+use Rattle.std.specs.Prelude.{◌≡◌, ℕ, zero, suc, ◌+◌, ◌/◌, ◌%◌, ◌-◌, ◌^◌, ◌≤◌, ◌<◌, ℤ, pos, negsuc, ◌-ℤ◌, Bool, true, false, List, []}
+use Rattle.std.specs.Prelude.{◌∷◌, ◌++◌, length, nat_lt, nat_le, not, ◌==◌, if◌then◌else◌, Option, Some, None}
 use Rattle.bcder.specs.declared.mode.Mode.{Mode}
 use Rattle.bcder.specs.declared.mode.Mode.TheVariants.{Ber, Cer, Der}
 use Rattle.std.specs.declared.cmp.Ordering.{Ordering}
@@ -43,7 +44,8 @@ IsTurned true k n x = x + n + 1 ≡ 256 ^ k
 -- the octets of n, or of -1 - n, at most k of them after the first
 abbrev pub octets_within : ℕ → Bool → ℕ → List ℕ
 octets_within zero negative n = octet negative (n % 256) ∷ []
-octets_within (suc k) negative n = if nat_lt n 128 then octet negative n ∷ [] else octets_within k negative (n / 256) ++ octet negative (n % 256) ∷ []
+octets_within (suc k) negative n =
+    if nat_lt n 128 then octet negative n ∷ [] else octets_within k negative (n / 256) ++ octet negative (n % 256) ∷ []
 
 -- the contents octets of an integer
 unfoldable pub integer_octets : ℤ → List ℕ

@@ -5,4 +5,5 @@ use Rattle.mkoid.specs.Lines.{AreLines}
 use Rattle.mkoid.proofs.lines.Given as goal
 
 abbrev pub invariant-loop-arg : goal.invariant-loop-arg
-invariant-loop-arg g l = (text : List ℕ) × AreLines (map string_bytes (take l.arg-index l.args)) text × Appends (g.W.Write.contents l.initial.target) (g.W.Write.contents l.target) text
+invariant-loop-arg g l = (text : List ℕ) × AreLines (map string_bytes (take l.arg-index l.args)) text
+    × Appends (g.W.Write.contents l.initial.target) (g.W.Write.contents l.target) text

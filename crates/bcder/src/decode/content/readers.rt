@@ -3,7 +3,8 @@ ghost use Rattle.std.specs.Prelude.{◌≡◌, ◌≤◌, [], false, Some, IfOk,
 ghost use Rattle.std.specs.Int.{w8, w16, w32, w64, w128};
 ghost use Rattle.bcder.specs.x690.Number.{IsNumber};
 ghost use Rattle.bcder.specs.x690.Integer.{truth, IsSmallest, Leads};
-ghost use Rattle.bcder.specs.calls.Readers.{HasAll, RefusesTooFew, ReadBy, ReadOctets, FindNoMemory};
+ghost use Rattle.bcder.specs.calls.Readers.{HasAll, RefusesTooFew, ReadBy};
+ghost use Rattle.bcder.specs.calls.Readers.{ReadOctets, FindNoMemory};
 ghost use Rattle.bcder.specs.calls.Readers.{IsSigned, IsUnsigned, IsTruth, IsNull, Told, Untold};
 ghost use Rattle.bcder.specs.calls.Readers.{LookedAt, ToldOf};
 ghost use Rattle.bcder.specs.calls.Readers.{IsThis, MeanAnother, NotSmallest, NoUnsigned};

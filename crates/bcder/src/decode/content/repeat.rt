@@ -84,7 +84,9 @@ impl<'a, S: Source> Constructed<'a, S> {
     /// These are the values of a SEQUENCE OF or a SET OF:
     ///
     /// ```text
-    /// let numbers = cons.take_sequence(|cons| cons.collect_some(alloc, |cons| cons.take_opt_u32()))?;
+    /// let numbers = cons.take_sequence(|cons| {
+    ///     cons.collect_some(alloc, |cons| cons.take_opt_u32())
+    /// })?;
     /// ```
     ///
     /// The closure is called, and the content is left, as by [`while_some`](Self::while_some).

@@ -9,9 +9,11 @@ ghost use Rattle.bcder.specs.steps.Inside.{kind_behind, limit_inside};
 ghost use Rattle.bcder.specs.steps.Peek.{len_of};
 ghost use Rattle.bcder.specs.calls.Skipping.{ExactlyAll, ExactlySkipped, ExactlyValue, FoundMemory};
 ghost use Rattle.bcder.specs.calls.Skipping.{SkippedAll, SkippedNext, SkippedOne, SkippedValue};
-ghost use Rattle.bcder.specs.steps.Stacked.{Counts, Gone, IsCounted, LeavesInnermost, RanOverSource};
+ghost use Rattle.bcder.specs.steps.Stacked.{Counts, Gone, IsCounted};
+ghost use Rattle.bcder.specs.steps.Stacked.{LeavesInnermost, RanOverSource};
 ghost use Rattle.bcder.specs.steps.Stacked.{TopIs};
-ghost use Rattle.bcder.specs.steps.Stacked.{entries, entry_of, framed, interrupt_cause, limit_around};
+ghost use Rattle.bcder.specs.steps.Stacked.{entries, entry_of, framed};
+ghost use Rattle.bcder.specs.steps.Stacked.{interrupt_cause, limit_around};
 ghost use Rattle.bcder.specs.steps.Stacked.{limit_in};
 ghost use Rattle.bcder.specs.steps.Stacked.{source_of, unwound};
 ghost use Rattle.bcder.specs.calls.Views.{after, before, Moved};
@@ -273,7 +275,8 @@ impl<'a, S: Source> Constructed<'a, S> {
         ensures content { IsOfContent (interrupt_cause interrupt) → IsRefusal result }
         ensures source { interrupt_cause interrupt ≡ of_source → cause_of result ≡ of_source }
         ensures memory { interrupt_cause interrupt ≡ of_memory → cause_of result ≡ of_memory }
-        ensures closure { (x : _) → interrupt ≡ Interrupt.Closure x → cause_of result ≡ of_content x }
+        ensures closure { (x : _) → interrupt ≡ Interrupt.Closure x
+            → cause_of result ≡ of_content x }
     {
         match interrupt {
             Interrupt::Closure(error) => self.source.content_err(error),

@@ -2,7 +2,8 @@
 ghost use Rattle.std.specs.Prelude.{pos};
 ghost use Rattle.bcder.specs.x690.Identifier.{universal};
 ghost use Rattle.bcder.specs.x690.Integer.{integer_octets};
-ghost use Rattle.bcder.specs.calls.Encoders.{SizeOfContents, WritesContents, WritesPrimitive, into_result};
+ghost use Rattle.bcder.specs.calls.Encoders.{SizeOfContents, WritesContents};
+ghost use Rattle.bcder.specs.calls.Encoders.{WritesPrimitive, into_result};
 ghost use Rattle.bcder.specs.calls.Meaning.{Exactly};
 ghost use Rattle.bcder.specs.laws.Integers.{integer_octets_are};
 ghost use Rattle.bcder.specs.laws.Meanings.{Exactly_lawful};

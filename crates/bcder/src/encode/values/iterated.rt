@@ -37,7 +37,8 @@ impl<T: IntoIterator + Clone> Iter<T> {
     ///
     /// Returns `NoMemory` if cloning fails, which never happens if a clone can't fail.
     pub fn items(&self) -> Result<T::IntoIter, NoMemory>
-        ensures items { IfOk result (λ i. (t : T) × T.is_clone self.now.value t × T.into_iter_gives t i) }
+        ensures items { IfOk result (λ i. (t : T) × T.is_clone self.now.value t
+            × T.into_iter_gives t i) }
         ensures refused { OnErr result (T.is_infallible self.now.value → ⊥) }
     {
         match self.value.clone() {

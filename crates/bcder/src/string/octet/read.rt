@@ -126,8 +126,8 @@ impl OctetString {
         OctetString::take_opt_if(alloc, cons, Tag::OCTET_STRING)
     }
 
-    /// Takes the next value as a string if it has this tag. Returns `None` at the end and at a value
-    /// of another tag, which stays.
+    /// Takes the next value as a string if it has this tag. Returns `None` at the end and at a
+    /// value of another tag, which stays.
     ///
     /// This reads a string with an implicit tag, which stands in place of the tag of OCTET STRING
     /// (X.690, 8.14.4):
@@ -141,7 +141,8 @@ impl OctetString {
     ///
     /// # Errors
     ///
-    /// Returns the errors of `take_opt_from`, of a value with this tag. The content has then failed.
+    /// Returns the errors of `take_opt_from`, of a value with this tag. The content has then
+    /// failed.
     #[inline(always)]
     pub fn take_opt_if<S: Source>(
         alloc: Global,

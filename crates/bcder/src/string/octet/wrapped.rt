@@ -73,7 +73,8 @@ fn inside_len<V: Values>(
     sizes: &mut Sizes,
 ) -> Result<usize, EncodeError>
     requires { V.can_encode values.now }
-    ensures sized { InsideSize mode (V.means values.now inner) (V.may_lack values.now inner) result }
+    ensures sized { InsideSize mode (V.means values.now inner)
+        (V.may_lack values.now inner) result }
     ensures noted { IfOk result (λ _. Notes (V.reads values.now inner) sizes.old sizes.new) }
 {
     let len = values.note_sizes(inner, sizes)?;

@@ -167,7 +167,8 @@ fn put_cut<W: io::Write>(
     requires some { 0 < len }
     requires all { len ≡ length (concat parts) }
     ensures { WroteOctets W.contents target
-        (enclosed Cer tag (segments_in_cer (concat parts.entry)).octets) (into_result result why.new) }
+        (enclosed Cer tag (segments_in_cer (concat parts.entry)).octets)
+        (into_result result why.new) }
 {
     put_header(target, tag, true, Length::Indefinite, why)?;
     put_segments(len, parts, target, why)?;

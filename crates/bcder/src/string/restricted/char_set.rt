@@ -59,9 +59,9 @@ impl Error for StringError {}
 
 impl From<CharSetError> for StringError {
     ghost use Rattle.std.specs.Prelude.{◌≡◌};
-    ghost use Rattle.bcder.specs.declared.string.restricted.char_set.StringError.TheVariants.{CharSet};
+    ghost use Rattle.bcder.specs.declared.string.restricted.char_set.StringError.TheVariants as why;
 
-    ghost from_gives = { λ _ e. e ≡ CharSet };
+    ghost from_gives = { λ _ e. e ≡ why.CharSet };
 
     fn from(_error: CharSetError) -> StringError {
         StringError::CharSet
@@ -70,9 +70,9 @@ impl From<CharSetError> for StringError {
 
 impl From<NoMemory> for StringError {
     ghost use Rattle.std.specs.Prelude.{◌≡◌};
-    ghost use Rattle.bcder.specs.declared.string.restricted.char_set.StringError.TheVariants.{NoMemory};
+    ghost use Rattle.bcder.specs.declared.string.restricted.char_set.StringError.TheVariants as why;
 
-    ghost from_gives = { λ _ e. e ≡ NoMemory };
+    ghost from_gives = { λ _ e. e ≡ why.NoMemory };
 
     fn from(_error: NoMemory) -> StringError {
         StringError::NoMemory
@@ -81,9 +81,9 @@ impl From<NoMemory> for StringError {
 
 impl From<AllocError> for StringError {
     ghost use Rattle.std.specs.Prelude.{◌≡◌};
-    ghost use Rattle.bcder.specs.declared.string.restricted.char_set.StringError.TheVariants.{NoMemory};
+    ghost use Rattle.bcder.specs.declared.string.restricted.char_set.StringError.TheVariants as why;
 
-    ghost from_gives = { λ _ e. e ≡ NoMemory };
+    ghost from_gives = { λ _ e. e ≡ why.NoMemory };
 
     fn from(_error: AllocError) -> StringError {
         StringError::NoMemory
@@ -92,9 +92,9 @@ impl From<AllocError> for StringError {
 
 impl<T: Drop> From<AllocFailed<T>> for StringError {
     ghost use Rattle.std.specs.Prelude.{◌≡◌};
-    ghost use Rattle.bcder.specs.declared.string.restricted.char_set.StringError.TheVariants.{NoMemory};
+    ghost use Rattle.bcder.specs.declared.string.restricted.char_set.StringError.TheVariants as why;
 
-    ghost from_gives = { λ _ e. e ≡ NoMemory };
+    ghost from_gives = { λ _ e. e ≡ why.NoMemory };
 
     fn from(_error: AllocFailed<T>) -> StringError {
         StringError::NoMemory

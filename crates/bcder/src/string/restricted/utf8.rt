@@ -1,5 +1,6 @@
 //! UTF-8 (RFC 3629).
-ghost use Rattle.std.specs.Prelude.{◌≡◌, ◌+◌, ◌*◌, ◌<◌, ◌≤◌, ◌↔◌, IsTrue, None, Some, length, take, IfOk, IfSome, MatchOption, MatchResult};
+ghost use Rattle.std.specs.Prelude.{◌≡◌, ◌+◌, ◌*◌, ◌<◌, ◌≤◌, ◌↔◌, IsTrue, None, Some, length};
+ghost use Rattle.std.specs.Prelude.{take, IfOk, IfSome, MatchOption, MatchResult};
 ghost use Rattle.std.specs.Str.{IsUtf8};
 ghost use Rattle.bcder.specs.calls.CharSetCalls.{Checks};
 ghost use Rattle.bcder.specs.x690.Utf8.{utf8_string_tag, utf8_step, lead, read_behind};

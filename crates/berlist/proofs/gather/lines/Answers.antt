@@ -9,4 +9,5 @@ use Rattle.berlist.proofs.gather.lines.Goals as goal
 pub returns-in_ok-into_content-in-Err : goal.returns-in_ok-into_content-in-Err
 returns-in_ok-into_content-in-Err c =
     let o = c.in_ok-into_content-in-Err.ensures.ok in
-    subst (IsNoList c.args.mode) c.new.ensures.octets (refuses_all (of_constructed ghosts.stream) _ string_bytes (slices_faultless _ (λ x. refl)) (λ p r q x. search (rules, untouched_is_moved)) _ c.args.mode c.in-Err.error _ (λ h. cc) c.in-Err.ensures.refused.1)
+    subst (IsNoList c.args.mode) c.new.ensures.octets (refuses_all (of_constructed ghosts.stream) _ string_bytes (slices_faultless _ (λ x. refl))
+    (λ p r q x. search (rules, untouched_is_moved)) _ c.args.mode c.in-Err.error _ (λ h. cc) c.in-Err.ensures.refused.1)

@@ -15,4 +15,6 @@ told (Err x) l m xs ys p t e = tt
 pub returns-clause-two : goal.returns-clause-two
 returns-clause-two g c =
     let old = c.limit_further.new.self in let new = c.pass_two.new.source in let stream = g.S.Source.stream in
-    let q = told c.pass_two.result old.limit new.limit (stream old.source.now).rest (stream new.source.now).rest (first_kept c.pass_two.ensures.kept) c.pass_two.ensures.two c.pass_two.ensures.enough in search rules
+    let q = told c.pass_two.result old.limit new.limit (stream old.source.now).rest (stream new.source.now).rest
+    (first_kept c.pass_two.ensures.kept) c.pass_two.ensures.two c.pass_two.ensures.enough in
+    search rules

@@ -18,15 +18,18 @@ unreachable-requires c =
     let back = c.unsigned_integers_are_taken_back.ensures.of_32_bits c.args.mode c.args.number (omega (arith, c.ranges.number.fits)) in
     let appends = written pos c.args.mode _ _ c.encode.ensures (Some c.new-octets.result.items)
     (Some c.write_encoded.new.target.items) back.encoded back.only c.in_ok-write_encoded.ensures in
-    let whole : c.as_slice.result.now ≡ back.encoded.octets = c.as_slice.ensures.value ∙ appends ∙ ap (λ z. z ++ back.encoded.octets) c.new-octets.ensures.items in
+    let whole : c.as_slice.result.now ≡ back.encoded.octets =
+    c.as_slice.ensures.value ∙ appends ∙ ap (λ z. z ++ back.encoded.octets) c.new-octets.ensures.items in
     let refused = c.in-Err.ensures.refused in
-    written_is_not_refused _ _ no_source_error integer_tag (IsUnsigned 32) (λ p r q h. search rules) c.args.mode _ c.args.number back _ whole c.in-Err.field-0 refused.0 refused.1
+    written_is_not_refused _ _ no_source_error integer_tag (IsUnsigned 32)
+    (λ p r q h. search rules) c.args.mode _ c.args.number back _ whole c.in-Err.field-0 refused.0 refused.1
 
 pub returns-clause-number : goal.returns-clause-number
 returns-clause-number c =
     let back = c.unsigned_integers_are_taken_back.ensures.of_32_bits c.args.mode c.args.number (omega (arith, c.ranges.number.fits)) in
     let appends = written pos c.args.mode _ _ c.encode.ensures (Some c.new-octets.result.items)
     (Some c.write_encoded.new.target.items) back.encoded back.only c.in_ok-write_encoded.ensures in
-    let whole : c.as_slice.result.now ≡ back.encoded.octets = c.as_slice.ensures.value ∙ appends ∙ ap (λ z. z ++ back.encoded.octets) c.new-octets.ensures.items in
+    let whole : c.as_slice.result.now ≡ back.encoded.octets =
+    c.as_slice.ensures.value ∙ appends ∙ ap (λ z. z ++ back.encoded.octets) c.new-octets.ensures.items in
     let ok = c.in-Ok.ensures.ok in
     decoded_as_written _ _ no_source_error integer_tag (IsUnsigned 32) (λ p r q h. search rules) c.args.mode _ c.args.number back _ whole c.in-Ok.read ok.0 ok.1

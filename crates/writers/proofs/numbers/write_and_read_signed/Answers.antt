@@ -43,5 +43,6 @@ returns-clause-number c =
     c.as_slice.ensures.value ∙ appends ∙ ap (λ z. z ++ back.encoded.octets) c.new-octets.ensures.items in
     let ok = c.in-Ok.ensures.ok in
     let same : c.in-Ok.read ≡ c.args.number =
-    decoded_as_written _ _ no_source_error integer_tag (IsSigned w32) (λ p r q h. search rules) c.args.mode _ c.args.number back _ whole c.in-Ok.read ok.0 ok.1 in
+    decoded_as_written _ _ no_source_error integer_tag (IsSigned w32)
+    (λ p r q h. search rules) c.args.mode _ c.args.number back _ whole c.in-Ok.read ok.0 ok.1 in
     ap (λ (z : ℤ). cast_signed w32 (cast_unsigned w32 z)) same ∙ to_z-of_z w32 c.args.number c.ranges.number

@@ -11,5 +11,8 @@ loop-item-preserved g c = λ d.
     (c.loop-item.invariant d) ((c.is_clear_in.ensures.exact d).0 (search rules))
 
 pub returns-clause-exact : goal.returns-clause-exact
-returns-clause-exact g c = λ d.
-    (λ e. all_first (λ v. g.T.Encode.is_clear v c.args.mode) c.args.items.now c.loop-item.item-index c.loop-item-test.false (c.loop-item.invariant d), λ h. refl)
+returns-clause-exact g c = λ d. (
+  λ e. all_first (λ v. g.T.Encode.is_clear v c.args.mode) c.args.items.now c.loop-item.item-index c.loop-item-test.false
+      (c.loop-item.invariant d),
+  λ h. refl,
+)

@@ -11,4 +11,5 @@ returns-clause-took g c =
     let w = constructed_is_within_owed g.S.Source.stream g.met.S.Source.sound c.args.cons.now in
     let m = c.trace_opt_from-value.ensures.moves i (untouched_is_moved i) in
     reads_optional (g.T.Type.tags g.T.Type.TAG) (g.T.Type.means i.mode) i j w m
-    (record { own = g.T.Type.TAG; is_own = g.met.T.Type.tagged; value_tags = g.met.T.Type.value_tags }) c.trace_opt_from-value.result c.trace_opt_from-value.ensures.took
+    (record { own = g.T.Type.TAG; is_own = g.met.T.Type.tagged; value_tags = g.met.T.Type.value_tags }) c.trace_opt_from-value.result
+    c.trace_opt_from-value.ensures.took

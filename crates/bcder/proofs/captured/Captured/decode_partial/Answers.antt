@@ -17,7 +17,8 @@ returns-clause-ok g c =
     let whole = subst (λ (k : Kept). AreWhole k.mode k.octets) c.self.view_is c.self.invariant in
     let left : Kept = record { mode = c.self.inside.mode; octets = c.into_bytes-left.result; start = c.pos-self-inside.result } in
     let source = c.with_offset-source.result in
-    let here = same_stream c.args.self.now source.octets source.pos (c.with_offset-source.ensures.octets ∙ c.in-Ok.ensures.cases ∙ ap (λ (k : Kept). k.octets) c.self.view_is) (c.with_offset-source.ensures.start ∙ ap (λ (k : Kept). k.start) c.self.view_is) in
+    let here = same_stream c.args.self.now source.octets source.pos (c.with_offset-source.ensures.octets ∙ c.in-Ok.ensures.cases
+    ∙ ap (λ (k : Kept). k.octets) c.self.view_is) (c.with_offset-source.ensures.start ∙ ap (λ (k : Kept). k.start) c.self.view_is) in
     let there = same_stream left c.decode_lent.new.source.octets c.decode_lent.new.source.pos (sym c.into_bytes-left.ensures) (sym c.pos-self-inside.ensures) in
     front_decoded _ _ c.args.self.now _ _ _ _ _ here is_mode whole left there is_mode c.in_ok-value.ensures.ok.1
 
@@ -25,6 +26,7 @@ pub returns-in_err-value-clause-refused : goal.returns-in_err-value-clause-refus
 returns-in_err-value-clause-refused g c =
     let is_mode = ap (λ (k : Kept). k.mode) c.self.view_is in
     let source = c.with_offset-source.result in
-    let here = same_stream c.args.self.now source.octets source.pos (c.with_offset-source.ensures.octets ∙ c.in-Ok.ensures.cases ∙ ap (λ (k : Kept). k.octets) c.self.view_is) (c.with_offset-source.ensures.start ∙ ap (λ (k : Kept). k.start) c.self.view_is) in
+    let here = same_stream c.args.self.now source.octets source.pos (c.with_offset-source.ensures.octets ∙ c.in-Ok.ensures.cases
+    ∙ ap (λ (k : Kept). k.octets) c.self.view_is) (c.with_offset-source.ensures.start ∙ ap (λ (k : Kept). k.start) c.self.view_is) in
     let h = c.in_err-value.ensures.refused in
     residual c.from_residual.result _ _ c.from_residual.ensures.1 (refused_at _ _ c.args.self.now _ _ _ here h.0 _ h.1 is_mode)

@@ -11,4 +11,5 @@ returns-in-Some-clause-peeked g c =
 pub returns-in-Some-look-clause-peeked : goal.returns-in-Some-look-clause-peeked
 returns-in-Some-look-clause-peeked g c =
     let enough : c.in_ok-found.found ≤ length c.slice.result.now = omega (arith, c.in_ok-found.ensures.ok.count, c.slice.ensures.enough) in
-    at_hand (IsPeeked c.args.mode (asked c.args.wanted) c.in-Some-look.seen) _ _ _ _ c.slice.ensures.front enough c.in_ok-found.ensures.ok.count c.in-Some-look.ensures
+    at_hand (IsPeeked c.args.mode (asked c.args.wanted) c.in-Some-look.seen) _ _ _ _ c.slice.ensures.front enough c.in_ok-found.ensures.ok.count
+    c.in-Some-look.ensures

@@ -14,5 +14,6 @@ returns g c =
     let contents = c.args.contents in
     let w = drop contents.start contents.buffer in
     let n = c.len-len.result in
-    let same : drop (5 - n) c.last_five.result ≡ w = last_octets contents.start n contents.buffer c.last_five.result c.last_five.ensures c.len-len.ensures.limit c.requires in
+    let same : drop (5 - n) c.last_five.result ≡ w =
+    last_octets contents.start n contents.buffer c.last_five.result c.last_five.ensures c.len-len.ensures.limit c.requires in
     same_octets (ap (λ v. c.args.identifier ∷ n ∷ v) same ∙ ap (λ k. c.args.identifier ∷ k ∷ w) c.len-len.ensures.value) c.put_last.ensures

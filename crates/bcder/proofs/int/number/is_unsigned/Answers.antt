@@ -11,4 +11,5 @@ turned false e = cc
 pub returns-then-is_smallest-clause-no : goal.returns-then-is_smallest-clause-no
 returns-then-is_smallest-clause-no c = λ e n a.
     let o : AreOctets c.args.octets.now = λ i. omega (arith, c.type_inv.octets i) in
-    leads_both c.args.octets.now (subst (λ b. Leads b c.args.octets.now) (turned c.is_negative.result e) c.is_negative.ensures) (unsigned_leads n c.args.octets.now o a)
+    leads_both c.args.octets.now (subst (λ b. Leads b c.args.octets.now) (turned c.is_negative.result e) c.is_negative.ensures)
+    (unsigned_leads n c.args.octets.now o a)

@@ -16,4 +16,5 @@ pub returns-clause-borrowed_written : goal.returns-clause-borrowed_written
 returns-clause-borrowed_written g c = returns-clause-owned_written g c
 
 pub returns-clause-taken : goal.returns-clause-taken
-returns-clause-taken g c = λ e written. restricted_taken g.L.CharSet.step c.args.tag c.args.mode (octets_of c.args.string.now) e c.octet_string.ensures.accepted written
+returns-clause-taken g c =
+    λ e written. restricted_taken g.L.CharSet.step c.args.tag c.args.mode (octets_of c.args.string.now) e c.octet_string.ensures.accepted written

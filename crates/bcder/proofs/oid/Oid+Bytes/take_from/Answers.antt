@@ -8,6 +8,7 @@ use Rattle.bcder.proofs.oid.Oid+Bytes.take_from.Goals as goal
 
 pub returns-clause-took : goal.returns-clause-took
 returns-clause-took g c =
-    one_as (of_primitive g.S.Source.stream) _ identifier_tag (λ _ w oid. (oid.0 ≡ w) × IsComplete w) (λ _. NoIdentifier) (octets_form g.S.Source.stream) (λ t p r q x. search rules)
+    one_as (of_primitive g.S.Source.stream) _ identifier_tag (λ _ w oid. (oid.0 ≡ w) × IsComplete w) (λ _. NoIdentifier) (octets_form g.S.Source.stream)
+    (λ t p r q x. search rules)
     (of_constructed g.S.Source.stream c.args.cons.now) (of_constructed g.S.Source.stream c.take_primitive_if.new.self) c.take_primitive_if.result
     (within_constructed g.S.Source.stream g.met.S.Source.sound c.args.cons.now) c.take_primitive_if.ensures.took

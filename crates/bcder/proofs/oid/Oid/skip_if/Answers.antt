@@ -9,6 +9,7 @@ use Rattle.bcder.proofs.oid.Oid.skip_if.Goals as goal
 
 pub returns-clause-took : goal.returns-clause-took
 returns-clause-took g c =
-    one_as (of_primitive g.S.Source.stream) _ identifier_tag (λ _. IsSame (g.T.AsSlice.items c.args.self.now.0)) (λ _. MeanNothing {T = Unit {0}} (IsSame (g.T.AsSlice.items c.args.self.now.0))) (octets_form g.S.Source.stream) (λ t p r q x. search rules)
+    one_as (of_primitive g.S.Source.stream) _ identifier_tag (λ _. IsSame (g.T.AsSlice.items c.args.self.now.0))
+    (λ _. MeanNothing {T = Unit {0}} (IsSame (g.T.AsSlice.items c.args.self.now.0))) (octets_form g.S.Source.stream) (λ t p r q x. search rules)
     (of_constructed g.S.Source.stream c.args.cons.now) (of_constructed g.S.Source.stream c.take_primitive_if.new.self) c.take_primitive_if.result
     (within_constructed g.S.Source.stream g.met.S.Source.sound c.args.cons.now) c.take_primitive_if.ensures.took

@@ -23,6 +23,7 @@ returns-clause-writes g c p ok =
     let first = part_of c.in-Some.first in
     let items = g.T.AsSlice.items c.args.self.now.0 in
     let rest = parts_left c.into_iter-component-iterator.result in
-    let whole : component_parts items ≡ first ∷ rest = cc (c.iter-components.ensures, c.in-Some.ensures.steps, c.into_iter-component-iterator.ensures.into_iter_gives) in
+    let whole : component_parts items ≡ first ∷ rest =
+    cc (c.iter-components.ensures, c.in-Some.ensures.steps, c.into_iter-component-iterator.ensures.into_iter_gives) in
     let e = shown_all items first rest (parts_left c.loop-component.component-iterator) w whole c.in-None.ensures.steps.0 goes in
     has_written_of_eq _ _ _ _ _ e (has_written_append _ _ (shown_part first) _ _ _ (search rules) (written (search rules)))

@@ -7,4 +7,5 @@ use Rattle.bcder.proofs.ComponentTexts.{shown_part}
 use Rattle.bcder.proofs.oid.OidDisplay.fmt.Given as goal
 
 abbrev pub invariant-loop-component : goal.invariant-loop-component
-invariant-loop-component g l = (w : List ℕ) × (IsPlainFormatter l.initial.f → HasWritten g.W.Write.write_str_gives l.initial.f w l.f) × (w ++ dots_before (map shown_part (parts_left l.component-iterator)) ≡ dots_before (map shown_part (parts_left l.initial.component-iterator)))
+invariant-loop-component g l = (w : List ℕ) × (IsPlainFormatter l.initial.f → HasWritten g.W.Write.write_str_gives l.initial.f w l.f)
+    × (w ++ dots_before (map shown_part (parts_left l.component-iterator)) ≡ dots_before (map shown_part (parts_left l.initial.component-iterator)))

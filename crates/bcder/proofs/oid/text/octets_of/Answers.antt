@@ -9,15 +9,18 @@ use Rattle.bcder.proofs.oid.text.octets_of.Goals.{else-first-lt2-via-then-first-
 
 pub returns-then-first-gt2-clause-err : goal.returns-then-first-gt2-clause-err
 returns-then-first-gt2-clause-err c =
-    refuses c.args.text.now _ _ _ _ c.split_text.ensures (ap texts_of c.in-Some.is ∙ c.split_text-2.ensures) _ (first_too_large _ refl c.in-Some-component.ensures c.if-first-gt2.true)
+    refuses c.args.text.now _ _ _ _ c.split_text.ensures (ap texts_of c.in-Some.is ∙ c.split_text-2.ensures) _
+    (first_too_large _ refl c.in-Some-component.ensures c.if-first-gt2.true)
 
 pub returns-in_default-component-2-clause-err : goal.returns-in_default-component-2-clause-err
 returns-in_default-component-2-clause-err c =
-    refuses c.args.text.now _ _ _ _ c.split_text.ensures (ap texts_of c.in-Some.is ∙ c.split_text-2.ensures) _ (second_is_none _ refl c.in-Some-component.ensures c.if-first-gt2.false c.in_default-component-2.ensures)
+    refuses c.args.text.now _ _ _ _ c.split_text.ensures (ap texts_of c.in-Some.is ∙ c.split_text-2.ensures) _
+    (second_is_none _ refl c.in-Some-component.ensures c.if-first-gt2.false c.in_default-component-2.ensures)
 
 pub returns-then-second-ge40-clause-err : goal.returns-then-second-ge40-clause-err
 returns-then-second-ge40-clause-err c =
-    refuses c.args.text.now _ _ _ _ c.split_text.ensures (ap texts_of c.in-Some.is ∙ c.split_text-2.ensures) _ (second_too_large _ _ refl c.in-Some-component.ensures c.if-first-lt2.true c.in-Some-component-2.ensures c.if-second-ge40.true)
+    refuses c.args.text.now _ _ _ _ c.split_text.ensures (ap texts_of c.in-Some.is ∙ c.split_text-2.ensures) _
+    (second_too_large _ _ refl c.in-Some-component.ensures c.if-first-lt2.true c.in-Some-component-2.ensures c.if-second-ge40.true)
 
 pub returns-in-Err-clause-err : goal.returns-in-Err-clause-err
 returns-in-Err-clause-err c =

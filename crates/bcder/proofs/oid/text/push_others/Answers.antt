@@ -6,7 +6,8 @@ use Rattle.bcder.proofs.oid.text.push_others.Goals as goal
 pub loop-rest-preserved : goal.loop-rest-preserved
 loop-rest-preserved c =
     let same : c.from.result ≡ c.in-Some-component.number = search rules in
-    pushed_more _ _ (texts_of c.loop-rest.rest) _ (ap texts_of c.in-Some.is ∙ c.split_text.ensures) _ _ _ _ c.in-Some-component.ensures (rw same at c.in-Ok.ensures) c.loop-rest.invariant
+    pushed_more _ _ (texts_of c.loop-rest.rest) _ (ap texts_of c.in-Some.is ∙ c.split_text.ensures) _ _ _ _ c.in-Some-component.ensures
+    (rw same at c.in-Ok.ensures) c.loop-rest.invariant
 
 pub returns-in_default-component-clause-err : goal.returns-in_default-component-clause-err
 returns-in_default-component-clause-err c =
@@ -16,7 +17,8 @@ returns-in_default-component-clause-err c =
 pub returns-in-Err-clause-err : goal.returns-in-Err-clause-err
 returns-in-Err-clause-err c =
     let (v, d, goes, refused) = c.loop-rest.invariant in
-    refused_later _ _ (texts_of c.loop-rest.rest) _ (ap texts_of c.in-Some.is ∙ c.split_text.ensures) _ c.in-Some-component.ensures refused _ c.why_no_component.ensures
+    refused_later _ _ (texts_of c.loop-rest.rest) _
+    (ap texts_of c.in-Some.is ∙ c.split_text.ensures) _ c.in-Some-component.ensures refused _ c.why_no_component.ensures
 
 pub returns-clause-ok : goal.returns-clause-ok
 returns-clause-ok c =

@@ -5,10 +5,12 @@ use Rattle.bcder.proofs.Spelling.{refused_here, refused_later}
 use Rattle.bcder.proofs.oid.text.why_no_component.Goals as goal
 
 pub loop-rest-preserved : goal.loop-rest-preserved
-loop-rest-preserved c = refused_later _ _ (texts_of c.loop-rest.rest) _ (ap texts_of c.in-Some.is ∙ c.split_text.ensures) _ c.in-Some-component.ensures c.loop-rest.invariant
+loop-rest-preserved c =
+    refused_later _ _ (texts_of c.loop-rest.rest) _ (ap texts_of c.in-Some.is ∙ c.split_text.ensures) _ c.in-Some-component.ensures c.loop-rest.invariant
 
 pub returns-in_default-component : goal.returns-in_default-component
-returns-in_default-component c = refused_here _ _ (texts_of c.loop-rest.rest) _ (ap texts_of c.in-Some.is ∙ c.split_text.ensures) c.in_default-component.ensures c.loop-rest.invariant
+returns-in_default-component c =
+    refused_here _ _ (texts_of c.loop-rest.rest) _ (ap texts_of c.in-Some.is ∙ c.split_text.ensures) c.in_default-component.ensures c.loop-rest.invariant
 
 pub returns : goal.returns
 returns c =

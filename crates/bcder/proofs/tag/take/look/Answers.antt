@@ -16,7 +16,8 @@ returns-in-Some c = λ x.
     (omega arith, i.fits, identifier_stands _ _ _ _ i x)
 
 pub returns-in-Some-identifier_violation : goal.returns-in-Some-identifier_violation
-returns-in-Some-identifier_violation c = λ x. let v = c.in-Some-identifier_violation.ensures in (some_followed _ x (v.some (search rules)), begins_no_identifier _ (v.refused (search rules) x), v.violates _ x)
+returns-in-Some-identifier_violation c = λ x. let v = c.in-Some-identifier_violation.ensures in
+    (some_followed _ x (v.some (search rules)), begins_no_identifier _ (v.refused (search rules) x), v.violates _ x)
 
 pub returns-in-None-identifier_violation : goal.returns-in-None-identifier_violation
 returns-in-None-identifier_violation c =

@@ -18,7 +18,8 @@ invariant_of-self-in-Ok g c =
     let M = g.V.Values.means c.args.values mode in
     let (e, meant, size) = c.in_ok-len.ensures.sized in
     let lawful = g.met.V.Values.lawful c.args.values mode c.requires in
-    let writes = subst (λ w. WritesEncoding M (g.V.Values.may_lack c.args.values mode) (Some w) (Some new) (into_result c.write_known.result c.write_known.new.why)) c.reserve.ensures.items (c.write_known.ensures.written lawful.one) in
+    let writes = subst (λ w. WritesEncoding M (g.V.Values.may_lack c.args.values mode) (Some w) (Some new)
+    (into_result c.write_known.result c.write_known.new.why)) c.reserve.ensures.items (c.write_known.ensures.written lawful.one) in
     whole_grown mode old new c.self.invariant (written_grows mode old new _ lawful (e, meant) writes (same_result _ c.in-Ok.is))
 
 pub returns-in-Ok-clause-extended : goal.returns-in-Ok-clause-extended
@@ -29,5 +30,7 @@ returns-in-Ok-clause-extended g c =
     let M = g.V.Values.means c.args.values mode in
     let (e, meant, size) = c.in_ok-len.ensures.sized in
     let lawful = g.met.V.Values.lawful c.args.values mode c.requires in
-    let writes = subst (λ w. WritesEncoding M (g.V.Values.may_lack c.args.values mode) (Some w) (Some new) (into_result c.write_known.result c.write_known.new.why)) c.reserve.ensures.items (c.write_known.ensures.written lawful.one) in
-    subst (λ (k : Kept). GrowsBy (g.V.Values.means c.args.values k.mode) k (kept_from_start mode new)) c.self.view_is (written_grows mode old new _ lawful (e, meant) writes (same_result _ c.in-Ok.is))
+    let writes = subst (λ w. WritesEncoding M (g.V.Values.may_lack c.args.values mode) (Some w) (Some new)
+    (into_result c.write_known.result c.write_known.new.why)) c.reserve.ensures.items (c.write_known.ensures.written lawful.one) in
+    subst (λ (k : Kept). GrowsBy (g.V.Values.means c.args.values k.mode) k (kept_from_start mode new)) c.self.view_is
+    (written_grows mode old new _ lawful (e, meant) writes (same_result _ c.in-Ok.is))

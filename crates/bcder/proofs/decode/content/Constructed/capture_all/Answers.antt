@@ -11,13 +11,17 @@ pub returns-clause-captured : goal.returns-clause-captured
 unfolding of_constructed
 returns-clause-captured g c =
     let old = of_constructed g.S.Source.stream c.args.self.now in
-    captures_by (of_captured g.S.Source.stream) _ PassesToEnd HasOthers MetDeep HasValuesOrDeep (λ p r q x. search rules) others_of end_usable all_deep all_kept CapturesValues _ _
-    (λ k h q m. holds_values _ _ _ _ k h (constructed_form g.S.Source.stream c.args.self.now) (c.capture.ensures.moves old (untouched_is_moved old)) q m) c.capture.result c.capture.ensures.captured c.capture.ensures.refused c.capture.ensures.mode
+    captures_by (of_captured g.S.Source.stream) _ PassesToEnd HasOthers MetDeep HasValuesOrDeep
+    (λ p r q x. search rules) others_of end_usable all_deep all_kept CapturesValues _ _
+    (λ k h q m. holds_values _ _ _ _ k h (constructed_form g.S.Source.stream c.args.self.now) (c.capture.ensures.moves old (untouched_is_moved old)) q m)
+    c.capture.result c.capture.ensures.captured c.capture.ensures.refused c.capture.ensures.mode
 
 pub returns-clause-exact : goal.returns-clause-exact
 unfolding of_constructed
 returns-clause-exact g c =
     let old = of_constructed g.S.Source.stream c.args.self.now in
     exactly_all _ _ c.capture.result
-    (captures_by (of_captured g.S.Source.stream) _ PassesToEnd HasOthers MetDeep HasValuesOrDeep (λ p r q x. search rules) others_of end_usable all_deep all_kept CapturesValues _ _
-    (λ k h q m. holds_values _ _ _ _ k h (constructed_form g.S.Source.stream c.args.self.now) (c.capture.ensures.moves old (untouched_is_moved old)) q m) c.capture.result c.capture.ensures.captured c.capture.ensures.refused c.capture.ensures.mode)
+    (captures_by (of_captured g.S.Source.stream) _ PassesToEnd HasOthers MetDeep HasValuesOrDeep
+    (λ p r q x. search rules) others_of end_usable all_deep all_kept CapturesValues _ _
+    (λ k h q m. holds_values _ _ _ _ k h (constructed_form g.S.Source.stream c.args.self.now) (c.capture.ensures.moves old (untouched_is_moved old)) q m)
+    c.capture.result c.capture.ensures.captured c.capture.ensures.refused c.capture.ensures.mode)

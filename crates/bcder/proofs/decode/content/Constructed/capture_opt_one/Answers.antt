@@ -25,7 +25,8 @@ returns-in-Ok-clause-exact g c =
     let j = of_constructed g.S.Source.stream c.find_next.new.self in
     let k = of_constructed g.S.Source.stream c.capture_one.new.self in
     let f = rw c.in-Ok-Some.field-0-is at c.in-Ok-Some.ensures.found in
-    exactly_next i k (within_constructed g.S.Source.stream g.met.S.Source.sound c.args.self.now) (Ok (Some c.in-Ok.captured)) (next_captured i j f c.in-Ok-Some.ensures.no_fault k c.in-Ok.captured c.in-Ok.ensures.captured)
+    exactly_next i k (within_constructed g.S.Source.stream g.met.S.Source.sound c.args.self.now) (Ok (Some c.in-Ok.captured))
+    (next_captured i j f c.in-Ok-Some.ensures.no_fault k c.in-Ok.captured c.in-Ok.ensures.captured)
 
 pub returns-in-Err-capture_one-clause-moves : goal.returns-in-Err-capture_one-clause-moves
 unfolding of_constructed
@@ -34,7 +35,8 @@ returns-in-Err-capture_one-clause-moves g c =
     let j = of_constructed g.S.Source.stream c.find_next.new.self in
     let k = of_constructed g.S.Source.stream c.capture_one.new.self in
     let f = rw c.in-Ok-Some.field-0-is at c.in-Ok-Some.ensures.found in
-    moved_carries _ _ (moved_twice_is_moved _ _ _ c.find_next.ensures.moves (moved_twice_is_moved _ _ _ (c.capture_one.ensures.moves j (untouched_is_moved j)) (failed_moves i j f c.in-Ok-Some.ensures.no_fault k c.in-Err-capture_one.error c.in-Err-capture_one.ensures.captured)))
+    moved_carries _ _ (moved_twice_is_moved _ _ _ c.find_next.ensures.moves (moved_twice_is_moved _ _ _ (c.capture_one.ensures.moves j (untouched_is_moved j))
+    (failed_moves i j f c.in-Ok-Some.ensures.no_fault k c.in-Err-capture_one.error c.in-Err-capture_one.ensures.captured)))
 
 pub returns-in-Err-capture_one-clause-captured : goal.returns-in-Err-capture_one-clause-captured
 unfolding of_constructed
@@ -52,7 +54,8 @@ returns-in-Err-capture_one-clause-exact g c =
     let j = of_constructed g.S.Source.stream c.find_next.new.self in
     let k = of_constructed g.S.Source.stream c.capture_one.new.self in
     let f = rw c.in-Ok-Some.field-0-is at c.in-Ok-Some.ensures.found in
-    exactly_next i (as_failed k) (within_constructed g.S.Source.stream g.met.S.Source.sound c.args.self.now) (Err c.in-Err-capture_one.error) (next_failed i j f c.in-Ok-Some.ensures.no_fault k c.in-Err-capture_one.error c.in-Err-capture_one.ensures.captured)
+    exactly_next i (as_failed k) (within_constructed g.S.Source.stream g.met.S.Source.sound c.args.self.now) (Err c.in-Err-capture_one.error)
+    (next_failed i j f c.in-Ok-Some.ensures.no_fault k c.in-Err-capture_one.error c.in-Err-capture_one.ensures.captured)
 
 pub returns-in-Ok-None-clause-moves : goal.returns-in-Ok-None-clause-moves
 returns-in-Ok-None-clause-moves g c = moved_carries _ _ c.find_next.ensures.moves
@@ -81,7 +84,8 @@ unfolding of_constructed
 returns-in-Err-clause-captured g c =
     let i = of_constructed g.S.Source.stream c.args.self.now in
     let k = of_constructed g.S.Source.stream c.find_next.new.self in
-    next_stopped stop_cause c.in-Err.stop c.stop_error.result i k (within_constructed g.S.Source.stream g.met.S.Source.sound c.args.self.now) c.stop_error.ensures c.in-Err.ensures.refused c.in-Err.ensures.failed c.find_next.ensures.mode c.find_next.ensures.marked
+    next_stopped stop_cause c.in-Err.stop c.stop_error.result i k (within_constructed g.S.Source.stream g.met.S.Source.sound c.args.self.now)
+    c.stop_error.ensures c.in-Err.ensures.refused c.in-Err.ensures.failed c.find_next.ensures.mode c.find_next.ensures.marked
 
 pub returns-in-Err-clause-exact : goal.returns-in-Err-clause-exact
 unfolding of_constructed
@@ -89,4 +93,5 @@ returns-in-Err-clause-exact g c =
     let i = of_constructed g.S.Source.stream c.args.self.now in
     let k = of_constructed g.S.Source.stream c.find_next.new.self in
     let w = within_constructed g.S.Source.stream g.met.S.Source.sound c.args.self.now in
-    exactly_next i k w (Err c.stop_error.result) (next_stopped stop_cause c.in-Err.stop c.stop_error.result i k w c.stop_error.ensures c.in-Err.ensures.refused c.in-Err.ensures.failed c.find_next.ensures.mode c.find_next.ensures.marked)
+    exactly_next i k w (Err c.stop_error.result) (next_stopped stop_cause c.in-Err.stop c.stop_error.result i k w c.stop_error.ensures c.in-Err.ensures.refused
+    c.in-Err.ensures.failed c.find_next.ensures.mode c.find_next.ensures.marked)

@@ -13,4 +13,5 @@ pub returns-in-Ok-Some-clause-refused : goal.returns-in-Ok-Some-clause-refused
 returns-in-Ok-Some-clause-refused g c =
     let i = of_constructed g.S.Source.stream c.args.self.now in
     let e = rw c.in-Ok-Some.field-0-is at c.in-Ok-Some.ensures.entered in
-    left_open (header_not_at_end i _ (within_constructed g.S.Source.stream g.met.S.Source.sound c.args.self.now) e.1.usable (header_entered i _ _ any e.0 e.1)) tt
+    left_open
+    (header_not_at_end i _ (within_constructed g.S.Source.stream g.met.S.Source.sound c.args.self.now) e.1.usable (header_entered i _ _ any e.0 e.1)) tt

@@ -6,7 +6,8 @@ use Rattle.bcder.specs.calls.Content.{Resembles, UnboundedValues, nothing, in_fr
 use Rattle.bcder.specs.steps.Peek.{header_of}
 use Rattle.bcder.specs.calls.Views.{of_constructed}
 use Rattle.bcder.specs.laws.Moved.{moved_twice_is_moved}
-use Rattle.bcder.proofs.Entering.{looked_moves, looked_failed, looked_enters, looked_front, header_nothing, other_missing, marker_missing, end_nothing, none_nothing, unread_nothing, no_fewer, grew_least, kind_of}
+use Rattle.bcder.proofs.Entering.{looked_moves, looked_failed, looked_enters, looked_front, header_nothing, other_missing}
+use Rattle.bcder.proofs.Entering.{marker_missing, end_nothing, none_nothing, unread_nothing, no_fewer, grew_least, kind_of}
 use Rattle.bcder.proofs.Naming.{looked_alike, front_alike, named_alike}
 use Rattle.bcder.proofs.SameBorrow.{within_constructed, constructed_form, with_source, resembles_with_source}
 use Rattle.bcder.proofs.decode.content.Constructed.next_header.Given.{Over}
@@ -14,22 +15,28 @@ use Rattle.bcder.proofs.decode.content.Constructed.next_header.Goals as goal
 use Rattle.bcder.proofs.decode.content.Constructed.next_header.Goals.{After-peek}
 
 -- the content that was only looked at is as it was
-looked : (g : Over) (c : After-peek g) → Resembles (of_constructed g.S.Source.stream c.args.self.now) (of_constructed g.S.Source.stream (with_source c.args.self.now c.peek.new.source))
+looked : (g : Over) (c : After-peek g)
+    → Resembles (of_constructed g.S.Source.stream c.args.self.now) (of_constructed g.S.Source.stream (with_source c.args.self.now c.peek.new.source))
 looked g c = resembles_with_source g.S.Source.stream c.args.self.now c.peek.new.source c.peek.ensures.rest c.peek.ensures.kept
 
 pub returns-in-Ok-clause-moves : goal.returns-in-Ok-clause-moves
 unfolding of_constructed
-returns-in-Ok-clause-moves g c = moved_twice_is_moved _ _ _ (looked_moves _ _ (looked g (goal.at.returns-in-Ok-clause-moves g c).After-peek) (no_fewer _ _ c.in-Ok-Front.ensures.no_fault)) c.enter.ensures.moves
+returns-in-Ok-clause-moves g c = moved_twice_is_moved _ _ _
+    (looked_moves _ _ (looked g (goal.at.returns-in-Ok-clause-moves g c).After-peek) (no_fewer _ _ c.in-Ok-Front.ensures.no_fault)) c.enter.ensures.moves
 
 pub returns-in-Ok-clause-entered : goal.returns-in-Ok-clause-entered
 unfolding of_constructed
 returns-in-Ok-clause-entered g c =
-    let p = rw c.in-Ok-Front.field-0-is at c.in-Ok-Front.ensures.peeked in
-    (p.1, looked_enters _ _ (looked g (goal.at.returns-in-Ok-clause-entered g c).After-peek) (no_fewer _ _ c.in-Ok-Front.ensures.no_fault) c.in-Ok-Front.ensures.no_fault (header_of c.in-Ok-Front.header) (of_constructed g.S.Source.stream c.enter.new.self) c.in-Ok.ensures.entered)
+    let p = rw c.in-Ok-Front.field-0-is at c.in-Ok-Front.ensures.peeked in (
+      p.1,
+      looked_enters _ _ (looked g (goal.at.returns-in-Ok-clause-entered g c).After-peek) (no_fewer _ _ c.in-Ok-Front.ensures.no_fault)
+          c.in-Ok-Front.ensures.no_fault (header_of c.in-Ok-Front.header) (of_constructed g.S.Source.stream c.enter.new.self) c.in-Ok.ensures.entered,
+    )
 
 pub returns-in-Err-enter-clause-moves : goal.returns-in-Err-enter-clause-moves
 unfolding of_constructed
-returns-in-Err-enter-clause-moves g c = moved_twice_is_moved _ _ _ (looked_moves _ _ (looked g (goal.at.returns-in-Err-enter-clause-moves g c).After-peek) (no_fewer _ _ c.in-Ok-Front.ensures.no_fault)) c.enter.ensures.moves
+returns-in-Err-enter-clause-moves g c = moved_twice_is_moved _ _ _
+    (looked_moves _ _ (looked g (goal.at.returns-in-Err-enter-clause-moves g c).After-peek) (no_fewer _ _ c.in-Ok-Front.ensures.no_fault)) c.enter.ensures.moves
 
 pub returns-in-Err-enter-clause-refused : goal.returns-in-Err-enter-clause-refused
 unfolding of_constructed
@@ -37,19 +44,24 @@ returns-in-Err-enter-clause-refused g c =
     let s = looked g (goal.at.returns-in-Err-enter-clause-refused g c).After-peek in
     let p = rw c.in-Ok-Front.field-0-is at c.in-Ok-Front.ensures.peeked in
     let h = c.in-Err-enter.ensures.refused in
-    nothing (header_nothing _ _ s c.in-Open.is c.args.wanted (within_constructed g.S.Source.stream g.met.S.Source.sound c.args.self.now) (constructed_form g.S.Source.stream c.args.self.now) (looked_front _ _ s (no_fewer _ _ c.in-Ok-Front.ensures.no_fault) h.1) (header_of c.in-Ok-Front.header) _ p.0.1 p.1) (named_alike _ _ (looked_alike _ _ s) _ h.0)
+    nothing (header_nothing _ _ s c.in-Open.is c.args.wanted (within_constructed g.S.Source.stream g.met.S.Source.sound c.args.self.now)
+    (constructed_form g.S.Source.stream c.args.self.now) (looked_front _ _ s (no_fewer _ _ c.in-Ok-Front.ensures.no_fault) h.1)
+    (header_of c.in-Ok-Front.header) _ p.0.1 p.1) (named_alike _ _ (looked_alike _ _ s) _ h.0)
 
 pub returns-in-Tagged-clause-moves : goal.returns-in-Tagged-clause-moves
 unfolding of_constructed
-returns-in-Tagged-clause-moves g c = looked_moves _ _ (looked g (goal.at.returns-in-Tagged-clause-moves g c).After-peek) (no_fewer _ _ c.in-Ok-Nothing.ensures.no_fault)
+returns-in-Tagged-clause-moves g c =
+    looked_moves _ _ (looked g (goal.at.returns-in-Tagged-clause-moves g c).After-peek) (no_fewer _ _ c.in-Ok-Nothing.ensures.no_fault)
 
 pub returns-in-Unbounded-clause-moves : goal.returns-in-Unbounded-clause-moves
 unfolding of_constructed
-returns-in-Unbounded-clause-moves g c = looked_moves _ _ (looked g (goal.at.returns-in-Unbounded-clause-moves g c).After-peek) (no_fewer _ _ c.in-Ok-Nothing.ensures.no_fault)
+returns-in-Unbounded-clause-moves g c =
+    looked_moves _ _ (looked g (goal.at.returns-in-Unbounded-clause-moves g c).After-peek) (no_fewer _ _ c.in-Ok-Nothing.ensures.no_fault)
 
 pub returns-in-Ok-Other-clause-moves : goal.returns-in-Ok-Other-clause-moves
 unfolding of_constructed
-returns-in-Ok-Other-clause-moves g c = looked_moves _ _ (looked g (goal.at.returns-in-Ok-Other-clause-moves g c).After-peek) (no_fewer _ _ c.in-Ok-Other.ensures.no_fault)
+returns-in-Ok-Other-clause-moves g c =
+    looked_moves _ _ (looked g (goal.at.returns-in-Ok-Other-clause-moves g c).After-peek) (no_fewer _ _ c.in-Ok-Other.ensures.no_fault)
 
 pub returns-in-Ok-Other-clause-none : goal.returns-in-Ok-Other-clause-none
 unfolding of_constructed
@@ -64,7 +76,8 @@ returns-in-Ok-Other-clause-none g c =
 
 pub returns-in-Ok-take_end-clause-moves : goal.returns-in-Ok-take_end-clause-moves
 unfolding of_constructed
-returns-in-Ok-take_end-clause-moves g c = moved_twice_is_moved _ _ _ (looked_moves _ _ (looked g (goal.at.returns-in-Ok-take_end-clause-moves g c).After-peek) (no_fewer _ _ c.in-Ok-End.ensures.no_fault)) c.take_end.ensures.moves
+returns-in-Ok-take_end-clause-moves g c = moved_twice_is_moved _ _ _ (looked_moves _ _ (looked g (goal.at.returns-in-Ok-take_end-clause-moves g c).After-peek)
+    (no_fewer _ _ c.in-Ok-End.ensures.no_fault)) c.take_end.ensures.moves
 
 pub returns-in-Ok-take_end-clause-none : goal.returns-in-Ok-take_end-clause-none
 unfolding of_constructed
@@ -79,7 +92,8 @@ returns-in-Ok-take_end-clause-none g c =
 
 pub returns-in-Err-take_end-clause-moves : goal.returns-in-Err-take_end-clause-moves
 unfolding of_constructed
-returns-in-Err-take_end-clause-moves g c = moved_twice_is_moved _ _ _ (looked_moves _ _ (looked g (goal.at.returns-in-Err-take_end-clause-moves g c).After-peek) (no_fewer _ _ c.in-Ok-End.ensures.no_fault)) c.take_end.ensures.moves
+returns-in-Err-take_end-clause-moves g c = moved_twice_is_moved _ _ _ (looked_moves _ _ (looked g (goal.at.returns-in-Err-take_end-clause-moves g c).After-peek)
+    (no_fewer _ _ c.in-Ok-End.ensures.no_fault)) c.take_end.ensures.moves
 
 pub returns-in-Err-take_end-clause-refused : goal.returns-in-Err-take_end-clause-refused
 unfolding of_constructed
@@ -87,33 +101,41 @@ returns-in-Err-take_end-clause-refused g c =
     let s = looked g (goal.at.returns-in-Err-take_end-clause-refused g c).After-peek in
     let p = rw c.in-Ok-End.field-0-is at c.in-Ok-End.ensures.peeked in
     let h = c.in-Err-take_end.ensures.refused in
-    nothing (end_nothing _ _ s c.in-Open.is c.args.wanted (within_constructed g.S.Source.stream g.met.S.Source.sound c.args.self.now) (constructed_form g.S.Source.stream c.args.self.now) (looked_front _ _ s (no_fewer _ _ c.in-Ok-End.ensures.no_fault) h.1) _ p.0.1 p.1) (named_alike _ _ (looked_alike _ _ s) _ h.0)
+    nothing (end_nothing _ _ s c.in-Open.is c.args.wanted (within_constructed g.S.Source.stream g.met.S.Source.sound c.args.self.now)
+    (constructed_form g.S.Source.stream c.args.self.now) (looked_front _ _ s (no_fewer _ _ c.in-Ok-End.ensures.no_fault) h.1) _ p.0.1 p.1)
+    (named_alike _ _ (looked_alike _ _ s) _ h.0)
 
 pub returns-in_default-kind-clause-moves : goal.returns-in_default-kind-clause-moves
 unfolding of_constructed
-returns-in_default-kind-clause-moves g c = looked_failed _ _ (looked g (goal.at.returns-in_default-kind-clause-moves g c).After-peek) (no_fewer _ _ c.in-Ok-Nothing.ensures.no_fault) _ c.in-Open.is refl refl refl refl refl refl refl
+returns-in_default-kind-clause-moves g c = looked_failed _ _ (looked g (goal.at.returns-in_default-kind-clause-moves g c).After-peek)
+    (no_fewer _ _ c.in-Ok-Nothing.ensures.no_fault) _ c.in-Open.is refl refl refl refl refl refl refl
 
 pub returns-in_default-kind-clause-refused : goal.returns-in_default-kind-clause-refused
 unfolding of_constructed
 returns-in_default-kind-clause-refused g c =
     let s = looked g (goal.at.returns-in_default-kind-clause-refused g c).After-peek in
-    let bounded : (of_constructed g.S.Source.stream c.args.self.now).kind ≡ UnboundedValues → ⊥ = λ k. c.in_default-kind.not-Unbounded (kind_of _ _ (s.kind ∙ k)) in
+    let bounded : (of_constructed g.S.Source.stream c.args.self.now).kind ≡ UnboundedValues
+    → ⊥ = λ k. c.in_default-kind.not-Unbounded (kind_of _ _ (s.kind ∙ k)) in
     let e = rw c.in-Ok-Nothing.field-0-is at c.in-Ok-Nothing.ensures.peeked in
-    nothing (none_nothing _ _ s c.in-Open.is c.args.wanted c.in-Any.is (constructed_form g.S.Source.stream c.args.self.now) (λ k o. let q : c.args.self.now.kind ≡ kind.Definite = kind_of _ _ k in let r : c.args.self.now.source.now.limit ≡ Some 0 = o in search rules) bounded e)
+    nothing (none_nothing _ _ s c.in-Open.is c.args.wanted c.in-Any.is (constructed_form g.S.Source.stream c.args.self.now) (λ k o.
+    let q : c.args.self.now.kind ≡ kind.Definite = kind_of _ _ k in let r : c.args.self.now.source.now.limit ≡ Some 0 = o in search rules) bounded e)
     (record { violation = violation.TruncatedContents; violates = truncated_contents refl (sym s.rest ∙ e) bounded; named = refl })
 
 pub returns-in-Ok-Refused-clause-moves : goal.returns-in-Ok-Refused-clause-moves
 unfolding of_constructed
-returns-in-Ok-Refused-clause-moves g c = looked_failed _ _ (looked g (goal.at.returns-in-Ok-Refused-clause-moves g c).After-peek) (no_fewer _ _ c.in-Ok-Refused.ensures.no_fault) _ c.in-Open.is refl refl refl refl refl refl refl
+returns-in-Ok-Refused-clause-moves g c = looked_failed _ _ (looked g (goal.at.returns-in-Ok-Refused-clause-moves g c).After-peek)
+    (no_fewer _ _ c.in-Ok-Refused.ensures.no_fault) _ c.in-Open.is refl refl refl refl refl refl refl
 
 pub returns-in-Ok-Refused-clause-refused : goal.returns-in-Ok-Refused-clause-refused
 unfolding of_constructed
 returns-in-Ok-Refused-clause-refused g c =
     let s = looked g (goal.at.returns-in-Ok-Refused-clause-refused g c).After-peek in
     let p = rw c.in-Ok-Refused.field-0-is at c.in-Ok-Refused.ensures.peeked in
-    nothing (unread_nothing _ _ s c.in-Open.is c.args.wanted (within_constructed g.S.Source.stream g.met.S.Source.sound c.args.self.now) (constructed_form g.S.Source.stream c.args.self.now) p.0 p.1)
+    nothing (unread_nothing _ _ s c.in-Open.is c.args.wanted (within_constructed g.S.Source.stream g.met.S.Source.sound c.args.self.now)
+    (constructed_form g.S.Source.stream c.args.self.now) p.0 p.1)
     (record { violation = c.in-Ok-Refused.violation; violates = in_front (front_alike _ _ (looked_alike _ _ s) _ p.2); named = refl })
 
 pub returns-in-Err-clause-moves : goal.returns-in-Err-clause-moves
 unfolding of_constructed
-returns-in-Err-clause-moves g c = looked_failed _ _ (looked g (goal.at.returns-in-Err-clause-moves g c).After-peek) (grew_least _ _ c.in-Err.ensures.fault) _ c.in-Open.is refl refl refl refl refl refl refl
+returns-in-Err-clause-moves g c = looked_failed _ _ (looked g (goal.at.returns-in-Err-clause-moves g c).After-peek)
+    (grew_least _ _ c.in-Err.ensures.fault) _ c.in-Open.is refl refl refl refl refl refl refl

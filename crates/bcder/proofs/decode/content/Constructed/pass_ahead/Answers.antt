@@ -17,7 +17,8 @@ returns-in-Ok-Some-clause-moves g c =
     let s = c.look_ahead.ensures.same in
     let b = rw c.in-Ok-Some.field-0-is at c.in-Ok-Some.ensures.whole in
     moved_twice_is_moved _ _ _ (looked_moves i j s (no_fewer _ _ c.in-Ok-Some.ensures.no_fault))
-    (moves_encoding j _ c.in-Ok-Some.size b.tree (subst (λ m. IsEncoding m b.tree (take c.in-Ok-Some.size j.stream.rest)) (sym s.mode) b.encodes) c.pass_over.ensures.advances (s.state ∙ c.requires) (c.pass_over.ensures.state ∙ s.state ∙ c.requires) c.pass_over.ensures.marked)
+    (moves_encoding j _ c.in-Ok-Some.size b.tree (subst (λ m. IsEncoding m b.tree (take c.in-Ok-Some.size j.stream.rest)) (sym s.mode) b.encodes)
+    c.pass_over.ensures.advances (s.state ∙ c.requires) (c.pass_over.ensures.state ∙ s.state ∙ c.requires) c.pass_over.ensures.marked)
 
 pub returns-in-Ok-Some-clause-passed : goal.returns-in-Ok-Some-clause-passed
 unfolding of_constructed
@@ -27,7 +28,8 @@ returns-in-Ok-Some-clause-passed g c =
     let s = c.look_ahead.ensures.same in
     let b = rw c.in-Ok-Some.field-0-is at c.in-Ok-Some.ensures.whole in
     record {
-      passed = λ _. looked_passes i j _ s (passes_encoding j _ c.in-Ok-Some.size b.tree (subst (λ m. IsEncoding m b.tree (take c.in-Ok-Some.size j.stream.rest)) (sym s.mode) b.encodes) c.pass_over.ensures.advances (s.state ∙ c.requires) (c.pass_over.ensures.state ∙ s.state ∙ c.requires));
+      passed = λ _. looked_passes i j _ s (passes_encoding j _ c.in-Ok-Some.size b.tree (subst (λ m. IsEncoding m b.tree (take c.in-Ok-Some.size j.stream.rest))
+          (sym s.mode) b.encodes) c.pass_over.ensures.advances (s.state ∙ c.requires) (c.pass_over.ensures.state ∙ s.state ∙ c.requires));
       same = search rules;
       no_fault = c.pass_over.ensures.no_fault ∙ c.in-Ok-Some.ensures.no_fault;
       fault = search rules;
@@ -38,4 +40,5 @@ returns-in-Ok-Some-clause-passed g c =
 
 pub returns-in-Err-clause-moves : goal.returns-in-Err-clause-moves
 unfolding of_constructed
-returns-in-Err-clause-moves g c = looked_failed _ _ c.look_ahead.ensures.same (grew_least _ _ c.in-Err.ensures.fault) _ c.requires refl refl refl refl refl refl refl
+returns-in-Err-clause-moves g c =
+    looked_failed _ _ c.look_ahead.ensures.same (grew_least _ _ c.in-Err.ensures.fault) _ c.requires refl refl refl refl refl refl refl

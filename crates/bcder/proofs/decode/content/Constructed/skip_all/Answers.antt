@@ -56,7 +56,8 @@ loop-preserved g c =
     let k = of_constructed g.S.Source.stream c.skip_one.new.self in
     record {
       walks =
-          walks_value i j k (within_constructed g.S.Source.stream g.met.S.Source.sound c.loop.self) c.loop.invariant.walks (c.skip_one.ensures.moves j (untouched_is_moved j)) c.skip_one.ensures.skipped.mode c.skip_one.ensures.skipped.marked
+          walks_value i j k (within_constructed g.S.Source.stream g.met.S.Source.sound c.loop.self) c.loop.invariant.walks
+          (c.skip_one.ensures.moves j (untouched_is_moved j)) c.skip_one.ensures.skipped.mode c.skip_one.ensures.skipped.marked
           (some_value (PassesValue j k) _ c.if-is_some.ensures c.in_ok-skip_one.ensures.skipped.value);
       no_fault = c.in_ok-skip_one.ensures.skipped.no_fault ∙ c.loop.invariant.no_fault;
     }
@@ -74,7 +75,8 @@ returns-clause-skipped g c =
     let j = of_constructed g.S.Source.stream c.loop.self in
     let k = of_constructed g.S.Source.stream c.skip_one.new.self in
     record {
-      all = λ s. walks_all i j k (constructed_form g.S.Source.stream c.args.self.now) c.loop.invariant.walks (none_value (EndsAt j k) _ c.if-is_some.ensures c.in_ok-skip_one.ensures.skipped.end) s;
+      all = λ s. walks_all i j k (constructed_form g.S.Source.stream c.args.self.now) c.loop.invariant.walks
+          (none_value (EndsAt j k) _ c.if-is_some.ensures c.in_ok-skip_one.ensures.skipped.end) s;
       done = none_value (IsDone k) _ c.if-is_some.ensures c.in_ok-skip_one.ensures.skipped.done;
       no_fault = c.in_ok-skip_one.ensures.skipped.no_fault ∙ c.loop.invariant.no_fault;
       refused = tt;

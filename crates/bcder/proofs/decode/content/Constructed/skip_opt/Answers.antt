@@ -10,4 +10,5 @@ returns-clause-moves g c = moved_carries _ _ c.skip_next.ensures.moves
 
 pub returns-clause-exact : goal.returns-clause-exact
 unfolding of_constructed
-returns-clause-exact g c = λ n. answers_skip cause_of _ _ _ _ _ (within_constructed g.S.Source.stream g.met.S.Source.sound c.args.self.now) n _ c.skip_next.ensures.skipped
+returns-clause-exact g c =
+    λ n. answers_skip cause_of _ _ _ _ _ (within_constructed g.S.Source.stream g.met.S.Source.sound c.args.self.now) n _ c.skip_next.ensures.skipped

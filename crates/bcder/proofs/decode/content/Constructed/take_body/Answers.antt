@@ -14,9 +14,11 @@ returns-in-Err g c =
     let back = c.run_over-result.result.2.now in
     let limit : c.pop.new.source.limit ≡ popped c.limit-outer.result c.in-Primitive.len back.limit = search rules in
     let source : c.pop.new.source.source ≡ back.source = search rules in
-    refused _ refl (takes_octets cause_of (of_content g.S.Source.stream) _ (of_constructed g.S.Source.stream c.args.self.now) _ (header_of c.args.header) _ refl refl refl refl _ refl
+    refused _ refl (takes_octets cause_of (of_content g.S.Source.stream) _ (of_constructed g.S.Source.stream c.args.self.now) _
+    (header_of c.args.header) _ refl refl refl refl _ refl
     g.S.Source.stream c.in-Primitive.len c.args.self.now.source.now c.set_limit.new.self back c.pop.new.source c.limit-outer.result
-    (ap len_of c.in-Primitive.is) refl refl c.limit-outer.ensures c.set_limit.ensures.limit c.set_limit.ensures.source limit source refl refl c.requires.fits (ap is_constructed c.in-Primitive.is) (g.met.S.Source.sound c.args.self.now.source.now.source) (rw c.in-Err.is at c.run_over-result.ensures.ran _))
+    (ap len_of c.in-Primitive.is) refl refl c.limit-outer.ensures c.set_limit.ensures.limit c.set_limit.ensures.source limit source refl refl c.requires.fits
+    (ap is_constructed c.in-Primitive.is) (g.met.S.Source.sound c.args.self.now.source.now.source) (rw c.in-Err.is at c.run_over-result.ensures.ran _))
 
 pub returns-in-Ok : goal.returns-in-Ok
 unfolding of_constructed of_primitive
@@ -25,10 +27,20 @@ returns-in-Ok g c =
     let limit : c.pop.new.source.limit ≡ popped c.limit-outer.result c.in-Primitive.len back.limit = search rules in
     let source : c.pop.new.source.source ≡ back.source = search rules in
     let old = c.args.self.now in let new = c.pop.new.source in
-    let m : Reading = record { stream = limited_stream g.S.Source.stream new; owed = new.limit; kind = values old.kind; state = old.state; mode = old.mode; marked = (old.marked || c.run_over-result.result.1); name = old.source.ghost_name } in
-    taken _ m refl (takes_octets cause_of (of_content g.S.Source.stream) _ (of_constructed g.S.Source.stream c.args.self.now) m (header_of c.args.header) _ refl refl refl refl _ refl
+    let m : Reading = record {
+      stream = limited_stream g.S.Source.stream new;
+      owed = new.limit;
+      kind = values old.kind;
+      state = old.state;
+      mode = old.mode;
+      marked = (old.marked || c.run_over-result.result.1);
+      name = old.source.ghost_name;
+    } in
+    taken _ m refl (takes_octets cause_of (of_content g.S.Source.stream) _ (of_constructed g.S.Source.stream c.args.self.now) m
+    (header_of c.args.header) _ refl refl refl refl _ refl
     g.S.Source.stream c.in-Primitive.len c.args.self.now.source.now c.set_limit.new.self back c.pop.new.source c.limit-outer.result
-    (ap len_of c.in-Primitive.is) refl refl c.limit-outer.ensures c.set_limit.ensures.limit c.set_limit.ensures.source limit source refl refl c.requires.fits (ap is_constructed c.in-Primitive.is) (g.met.S.Source.sound c.args.self.now.source.now.source) (rw c.in-Ok.is at c.run_over-result.ensures.ran _)) refl
+    (ap len_of c.in-Primitive.is) refl refl c.limit-outer.ensures c.set_limit.ensures.limit c.set_limit.ensures.source limit source refl refl c.requires.fits
+    (ap is_constructed c.in-Primitive.is) (g.met.S.Source.sound c.args.self.now.source.now.source) (rw c.in-Ok.is at c.run_over-result.ensures.ran _)) refl
 
 pub returns-in-Err-result : goal.returns-in-Err-result
 unfolding of_constructed of_primitive
@@ -36,9 +48,13 @@ returns-in-Err-result g c =
     let back = c.run_over-result-in-Constructed.result.2.now in
     let limit : c.go_outside.new.source.limit ≡ limit_outside c.in-Constructed.len c.limit-outer-in-Constructed.result back.limit = search rules in
     let source : c.go_outside.new.source.source ≡ back.source = search rules in
-    refused _ refl (values_taken cause_of (of_content g.S.Source.stream) _ (of_constructed g.S.Source.stream c.args.self.now) _ (header_of c.args.header) _ refl refl refl refl _ refl
-    g.S.Source.stream c.in-Constructed.len c.args.self.now.source.now c.go_inside-kind.new.source back c.go_outside.new.source c.limit-outer-in-Constructed.result
-    (ap len_of c.in-Constructed.is) refl refl c.limit-outer-in-Constructed.ensures c.go_inside-kind.ensures.limit c.go_inside-kind.ensures.source limit source refl refl c.requires.fits (ap is_constructed c.in-Constructed.is) (rw (c.go_inside-kind.ensures.kind, c.in-Err-result.is) at c.run_over-result-in-Constructed.ensures.ran _))
+    refused _ refl (values_taken cause_of (of_content g.S.Source.stream) _ (of_constructed g.S.Source.stream c.args.self.now) _
+    (header_of c.args.header) _ refl refl refl refl _ refl
+    g.S.Source.stream c.in-Constructed.len c.args.self.now.source.now c.go_inside-kind.new.source back c.go_outside.new.source
+    c.limit-outer-in-Constructed.result
+    (ap len_of c.in-Constructed.is) refl refl c.limit-outer-in-Constructed.ensures c.go_inside-kind.ensures.limit c.go_inside-kind.ensures.source limit source
+    refl refl c.requires.fits (ap is_constructed c.in-Constructed.is)
+    (rw (c.go_inside-kind.ensures.kind, c.in-Err-result.is) at c.run_over-result-in-Constructed.ensures.ran _))
 
 pub returns-in-Ok-result : goal.returns-in-Ok-result
 unfolding of_constructed of_primitive
@@ -47,7 +63,19 @@ returns-in-Ok-result g c =
     let limit : c.go_outside.new.source.limit ≡ limit_outside c.in-Constructed.len c.limit-outer-in-Constructed.result back.limit = search rules in
     let source : c.go_outside.new.source.source ≡ back.source = search rules in
     let old = c.args.self.now in let new = c.go_outside.new.source in
-    let m : Reading = record { stream = limited_stream g.S.Source.stream new; owed = new.limit; kind = values old.kind; state = old.state; mode = old.mode; marked = (old.marked || c.run_over-result-in-Constructed.result.1); name = old.source.ghost_name } in
-    taken _ m refl (values_taken cause_of (of_content g.S.Source.stream) _ (of_constructed g.S.Source.stream c.args.self.now) m (header_of c.args.header) _ refl refl refl refl _ refl
-    g.S.Source.stream c.in-Constructed.len c.args.self.now.source.now c.go_inside-kind.new.source back c.go_outside.new.source c.limit-outer-in-Constructed.result
-    (ap len_of c.in-Constructed.is) refl refl c.limit-outer-in-Constructed.ensures c.go_inside-kind.ensures.limit c.go_inside-kind.ensures.source limit source refl refl c.requires.fits (ap is_constructed c.in-Constructed.is) (rw (c.go_inside-kind.ensures.kind, c.in-Ok-result.is) at c.run_over-result-in-Constructed.ensures.ran _)) refl
+    let m : Reading = record {
+      stream = limited_stream g.S.Source.stream new;
+      owed = new.limit;
+      kind = values old.kind;
+      state = old.state;
+      mode = old.mode;
+      marked = (old.marked || c.run_over-result-in-Constructed.result.1);
+      name = old.source.ghost_name;
+    } in
+    taken _ m refl (values_taken cause_of (of_content g.S.Source.stream) _ (of_constructed g.S.Source.stream c.args.self.now) m
+    (header_of c.args.header) _ refl refl refl refl _ refl
+    g.S.Source.stream c.in-Constructed.len c.args.self.now.source.now c.go_inside-kind.new.source back c.go_outside.new.source
+    c.limit-outer-in-Constructed.result
+    (ap len_of c.in-Constructed.is) refl refl c.limit-outer-in-Constructed.ensures c.go_inside-kind.ensures.limit c.go_inside-kind.ensures.source limit source
+    refl refl c.requires.fits (ap is_constructed c.in-Constructed.is)
+    (rw (c.go_inside-kind.ensures.kind, c.in-Ok-result.is) at c.run_over-result-in-Constructed.ensures.ran _)) refl

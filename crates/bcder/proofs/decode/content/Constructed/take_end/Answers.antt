@@ -12,21 +12,26 @@ unfolding of_constructed
 returns-clause-moves g c =
     let i = of_constructed g.S.Source.stream c.args.self.now in
     let o = octets_behind g.S.Source.stream g.met.S.Source.sound c.args.self.now c.advance.new.self c.args.size c.requires.read.0 in
-    let a = advances_behind g.S.Source.stream g.met.S.Source.sound c.args.self.now c.advance.new.self c.args.size c.requires.read.0 c.advance.ensures.rest c.advance.ensures.faults c.advance.ensures.kept in
-    marker_moves i _ c.args.size (advances_to i _ _ _ a refl refl refl refl refl) o.0 o.1 c.requires.usable c.requires.read.1 (ap values c.in-Indefinite.is) refl refl
+    let a = advances_behind g.S.Source.stream g.met.S.Source.sound c.args.self.now c.advance.new.self c.args.size c.requires.read.0 c.advance.ensures.rest
+    c.advance.ensures.faults c.advance.ensures.kept in
+    marker_moves i _ c.args.size (advances_to i _ _ _ a refl refl refl refl refl) o.0 o.1 c.requires.usable c.requires.read.1
+    (ap values c.in-Indefinite.is) refl refl
 
 pub returns-clause-ended : goal.returns-clause-ended
 unfolding of_constructed
 returns-clause-ended g c =
     let i = of_constructed g.S.Source.stream c.args.self.now in
     let o = octets_behind g.S.Source.stream g.met.S.Source.sound c.args.self.now c.advance.new.self c.args.size c.requires.read.0 in
-    let a = advances_behind g.S.Source.stream g.met.S.Source.sound c.args.self.now c.advance.new.self c.args.size c.requires.read.0 c.advance.ensures.rest c.advance.ensures.faults c.advance.ensures.kept in
-    takes_marker i _ c.args.size (advances_to i _ _ _ a refl refl refl refl refl) o.0 o.1 c.requires.usable c.requires.read.1 (ap values c.in-Indefinite.is) refl
+    let a = advances_behind g.S.Source.stream g.met.S.Source.sound c.args.self.now c.advance.new.self c.args.size c.requires.read.0 c.advance.ensures.rest
+    c.advance.ensures.faults c.advance.ensures.kept in
+    takes_marker i _ c.args.size (advances_to i _ _ _ a refl refl refl refl refl) o.0 o.1 c.requires.usable c.requires.read.1
+    (ap values c.in-Indefinite.is) refl
 
 pub returns-in_default-clause-moves : goal.returns-in_default-clause-moves
 unfolding of_constructed
 returns-in_default-clause-moves g c =
-    let a = advances_behind g.S.Source.stream g.met.S.Source.sound c.args.self.now c.advance.new.self c.args.size c.requires.read.0 c.advance.ensures.rest c.advance.ensures.faults c.advance.ensures.kept in
+    let a = advances_behind g.S.Source.stream g.met.S.Source.sound c.args.self.now c.advance.new.self c.args.size c.requires.read.0 c.advance.ensures.rest
+    c.advance.ensures.faults c.advance.ensures.kept in
     moves_failed _ _ _ a (λ x. x) (open_not_ended _ c.requires.usable) refl
 
 pub returns-in_default-clause-refused : goal.returns-in_default-clause-refused
@@ -34,6 +39,13 @@ unfolding of_constructed
 returns-in_default-clause-refused g c =
     let i = of_constructed g.S.Source.stream c.args.self.now in
     let o = octets_behind g.S.Source.stream g.met.S.Source.sound c.args.self.now c.advance.new.self c.args.size c.requires.read.0 in
-    let a = advances_behind g.S.Source.stream g.met.S.Source.sound c.args.self.now c.advance.new.self c.args.size c.requires.read.0 c.advance.ensures.rest c.advance.ensures.faults c.advance.ensures.kept in
-    let n : i.kind ≡ IndefiniteValues → ⊥ = λ k. c.in_default.not-Indefinite (kind_of _ _ k) in
-    (record { violation = violation.StrayEnd; violates = stray_end refl n _ (marker_here i _ c.args.size a o.0 o.1 c.requires.usable c.requires.read.1); named = refl }, no_end_here i _ c.args.size a o.0 o.1 c.requires.usable c.requires.read.1 n)
+    let a = advances_behind g.S.Source.stream g.met.S.Source.sound c.args.self.now c.advance.new.self c.args.size c.requires.read.0 c.advance.ensures.rest
+    c.advance.ensures.faults c.advance.ensures.kept in
+    let n : i.kind ≡ IndefiniteValues → ⊥ = λ k. c.in_default.not-Indefinite (kind_of _ _ k) in (
+      record {
+        violation = violation.StrayEnd;
+        violates = stray_end refl n _ (marker_here i _ c.args.size a o.0 o.1 c.requires.usable c.requires.read.1);
+        named = refl;
+      },
+      no_end_here i _ c.args.size a o.0 o.1 c.requires.usable c.requires.read.1 n,
+    )

@@ -13,12 +13,14 @@ use Rattle.bcder.proofs.decode.content.Constructed.take_opt_primitive.Goals as g
 pub take_primitive_body-requires-clause-callable : goal.take_primitive_body-requires-clause-callable
 take_primitive_body-requires-clause-callable g c p i y s =
     let e = rw c.in-Ok-Some.field-0-is at c.in-Ok-Some.ensures.entered in
-    c.requires.callable _ y (subst (λ z. IsInside any (of_constructed g.S.Source.stream c.args.self.now) (header_of c.in-Ok-Some.header).tag (of_primitive g.S.Source.stream z)) (sym s) (inside_entered (of_constructed g.S.Source.stream c.args.self.now) _ _ _ any e.0 e.1 i))
+    c.requires.callable _ y (subst (λ z. IsInside any (of_constructed g.S.Source.stream c.args.self.now) (header_of c.in-Ok-Some.header).tag
+    (of_primitive g.S.Source.stream z)) (sym s) (inside_entered (of_constructed g.S.Source.stream c.args.self.now) _ _ _ any e.0 e.1 i))
 
 pub take_primitive_body-requires-clause-lawful : goal.take_primitive_body-requires-clause-lawful
 take_primitive_body-requires-clause-lawful g c p r q i d =
     let e = rw c.in-Ok-Some.field-0-is at c.in-Ok-Some.ensures.entered in
-    moves_on (of_primitive g.S.Source.stream) _ (IsInside any (of_constructed g.S.Source.stream c.args.self.now) (header_of c.in-Ok-Some.header).tag) (λ p r q h d. c.requires.lawful _ p r q h d) _ r _ (inside_entered (of_constructed g.S.Source.stream c.args.self.now) _ _ _ any e.0 e.1 i) d
+    moves_on (of_primitive g.S.Source.stream) _ (IsInside any (of_constructed g.S.Source.stream c.args.self.now) (header_of c.in-Ok-Some.header).tag)
+    (λ p r q h d. c.requires.lawful _ p r q h d) _ r _ (inside_entered (of_constructed g.S.Source.stream c.args.self.now) _ _ _ any e.0 e.1 i) d
 
 pub take_primitive_body-requires-clause-fits : goal.take_primitive_body-requires-clause-fits
 unfolding of_constructed
@@ -29,19 +31,23 @@ take_primitive_body-requires-clause-fits g c =
 pub returns-clause-moves : goal.returns-clause-moves
 returns-clause-moves g c =
     let e = rw c.in-Ok-Some.field-0-is at c.in-Ok-Some.ensures.entered in
-    moved_carries _ _ (moves_next (of_primitive g.S.Source.stream) _ (Some true) any (of_constructed g.S.Source.stream c.args.self.now) _ _ (header_of c.in-Ok-Some.header) e.0 e.1 _ c.take_primitive_body.ensures)
+    moved_carries _ _ (moves_next (of_primitive g.S.Source.stream) _ (Some true) any (of_constructed g.S.Source.stream c.args.self.now) _ _
+    (header_of c.in-Ok-Some.header) e.0 e.1 _ c.take_primitive_body.ensures)
 
 pub returns-clause-took : goal.returns-clause-took
 returns-clause-took g c =
     let e = rw c.in-Ok-Some.field-0-is at c.in-Ok-Some.ensures.entered in
-    takes_next (of_primitive g.S.Source.stream) _ (Some true) any (of_constructed g.S.Source.stream c.args.self.now) _ _ (header_of c.in-Ok-Some.header) e.0 e.1 _ (said_behind (of_primitive g.S.Source.stream) (header_of c.in-Ok-Some.header) _ _ (λ p r q h. search rules) (Some true) _ _ _ c.take_primitive_body.ensures)
+    takes_next (of_primitive g.S.Source.stream) _ (Some true) any (of_constructed g.S.Source.stream c.args.self.now) _ _
+    (header_of c.in-Ok-Some.header) e.0 e.1 _ (said_behind (of_primitive g.S.Source.stream) (header_of c.in-Ok-Some.header) _ _ (λ p r q h. search rules)
+    (Some true) _ _ _ c.take_primitive_body.ensures)
 
 pub returns-in-Ok-None-clause-moves : goal.returns-in-Ok-None-clause-moves
 returns-in-Ok-None-clause-moves g c = moved_carries _ _ c.next_header.ensures.moves
 
 pub returns-in-Ok-None-clause-took : goal.returns-in-Ok-None-clause-took
 unfolding of_constructed
-returns-in-Ok-None-clause-took g c = next_none (of_primitive g.S.Source.stream) _ (Some true) any _ (of_constructed g.S.Source.stream c.next_header.new.self) c.next_header.ensures.mode (rw c.in-Ok-None.field-0-is at c.in-Ok-None.ensures.none)
+returns-in-Ok-None-clause-took g c = next_none (of_primitive g.S.Source.stream) _ (Some true) any _
+    (of_constructed g.S.Source.stream c.next_header.new.self) c.next_header.ensures.mode (rw c.in-Ok-None.field-0-is at c.in-Ok-None.ensures.none)
 
 pub returns-in-Err-clause-moves : goal.returns-in-Err-clause-moves
 returns-in-Err-clause-moves g c = moved_carries _ _ c.next_header.ensures.moves
@@ -49,5 +55,6 @@ returns-in-Err-clause-moves g c = moved_carries _ _ c.next_header.ensures.moves
 pub returns-in-Err-clause-took : goal.returns-in-Err-clause-took
 unfolding of_constructed
 returns-in-Err-clause-took g c =
-    next_answered (of_primitive g.S.Source.stream) _ (Some true) any (of_constructed g.S.Source.stream c.args.self.now) (of_constructed g.S.Source.stream c.next_header.new.self) c.next_header.ensures.mode
+    next_answered (of_primitive g.S.Source.stream) _ (Some true) any (of_constructed g.S.Source.stream c.args.self.now)
+    (of_constructed g.S.Source.stream c.next_header.new.self) c.next_header.ensures.mode
     stop_cause _ _ c.answer_stop.ensures c.next_header.ensures.marked c.in-Err.ensures.failed c.in-Err.ensures.refused

@@ -27,19 +27,22 @@ take_body-requires-clause-fits g c =
 pub returns-clause-moves : goal.returns-clause-moves
 returns-clause-moves g c =
     let e = rw c.in-Ok-Some.field-0-is at c.in-Ok-Some.ensures.entered in
-    moved_carries _ _ (moves_next (of_content g.S.Source.stream) _ None (tagged c.args.tag) (of_constructed g.S.Source.stream c.args.self.now) _ _ (header_of c.in-Ok-Some.header) e.0 e.1 _ c.take_body.ensures)
+    moved_carries _ _ (moves_next (of_content g.S.Source.stream) _ None (tagged c.args.tag) (of_constructed g.S.Source.stream c.args.self.now) _ _
+    (header_of c.in-Ok-Some.header) e.0 e.1 _ c.take_body.ensures)
 
 pub returns-clause-took : goal.returns-clause-took
 returns-clause-took g c =
     let e = rw c.in-Ok-Some.field-0-is at c.in-Ok-Some.ensures.entered in
-    takes_next (of_content g.S.Source.stream) _ None (tagged c.args.tag) (of_constructed g.S.Source.stream c.args.self.now) _ _ (header_of c.in-Ok-Some.header) e.0 e.1 _ c.take_body.ensures
+    takes_next (of_content g.S.Source.stream) _ None (tagged c.args.tag) (of_constructed g.S.Source.stream c.args.self.now) _ _
+    (header_of c.in-Ok-Some.header) e.0 e.1 _ c.take_body.ensures
 
 pub returns-in-Ok-None-clause-moves : goal.returns-in-Ok-None-clause-moves
 returns-in-Ok-None-clause-moves g c = moved_carries _ _ c.next_header.ensures.moves
 
 pub returns-in-Ok-None-clause-took : goal.returns-in-Ok-None-clause-took
 unfolding of_constructed
-returns-in-Ok-None-clause-took g c = next_none (of_content g.S.Source.stream) _ None (tagged c.args.tag) _ (of_constructed g.S.Source.stream c.next_header.new.self) c.next_header.ensures.mode (rw c.in-Ok-None.field-0-is at c.in-Ok-None.ensures.none)
+returns-in-Ok-None-clause-took g c = next_none (of_content g.S.Source.stream) _ None (tagged c.args.tag) _
+    (of_constructed g.S.Source.stream c.next_header.new.self) c.next_header.ensures.mode (rw c.in-Ok-None.field-0-is at c.in-Ok-None.ensures.none)
 
 pub returns-in-Err-clause-moves : goal.returns-in-Err-clause-moves
 returns-in-Err-clause-moves g c = moved_carries _ _ c.next_header.ensures.moves
@@ -47,5 +50,6 @@ returns-in-Err-clause-moves g c = moved_carries _ _ c.next_header.ensures.moves
 pub returns-in-Err-clause-took : goal.returns-in-Err-clause-took
 unfolding of_constructed
 returns-in-Err-clause-took g c =
-    next_answered (of_content g.S.Source.stream) _ None (tagged c.args.tag) (of_constructed g.S.Source.stream c.args.self.now) (of_constructed g.S.Source.stream c.next_header.new.self) c.next_header.ensures.mode
+    next_answered (of_content g.S.Source.stream) _ None (tagged c.args.tag) (of_constructed g.S.Source.stream c.args.self.now)
+    (of_constructed g.S.Source.stream c.next_header.new.self) c.next_header.ensures.mode
     stop_cause _ _ c.answer_stop.ensures c.next_header.ensures.marked c.in-Err.ensures.failed c.in-Err.ensures.refused

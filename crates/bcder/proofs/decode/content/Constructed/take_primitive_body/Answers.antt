@@ -11,23 +11,45 @@ use Rattle.bcder.proofs.Taking.{form_answered}
 use Rattle.bcder.proofs.decode.content.Constructed.take_primitive_body.Goals as goal
 
 pub returns-in_default : goal.returns-in_default
-returns-in_default g c = form_answered (of_primitive g.S.Source.stream) _ (Some true) _ (header_of c.args.header) _ _ c.answer_refusal.ensures (ap Some (sym (search rules))) refl
+returns-in_default g c =
+    form_answered (of_primitive g.S.Source.stream) _ (Some true) _ (header_of c.args.header) _ _ c.answer_refusal.ensures (ap Some (sym (search rules))) refl
 
 pub returns-in-Err : goal.returns-in-Err
 unfolding of_constructed of_primitive
 returns-in-Err g c =
     let limit : c.pop.new.source.limit ≡ popped c.limit-outer.result c.in-Primitive.len c.run.new.inside.source.now.limit = search rules in
     let source : c.pop.new.source.source ≡ c.run.new.inside.source.now.source = search rules in
-    refused _ refl (takes_octets cause_of (of_primitive g.S.Source.stream) _ (of_constructed g.S.Source.stream c.args.self.now) _ (header_of c.args.header) _ refl refl refl refl _ refl
+    refused _ refl (takes_octets cause_of (of_primitive g.S.Source.stream) _ (of_constructed g.S.Source.stream c.args.self.now) _
+    (header_of c.args.header) _ refl refl refl refl _ refl
     g.S.Source.stream c.in-Primitive.len c.args.self.now.source.now c.set_limit.new.self c.run.new.inside.source.now c.pop.new.source c.limit-outer.result
-    (ap len_of c.in-Primitive.is) refl refl c.limit-outer.ensures c.set_limit.ensures.limit c.set_limit.ensures.source limit source refl refl c.requires.fits (ap is_constructed c.in-Primitive.is) (g.met.S.Source.sound c.args.self.now.source.now.source) (record { handed = _; left = of_primitive g.S.Source.stream c.run.new.inside; runs = record { stream = refl; owed = refl; kind = refl; state = refl; mode = refl; marked = refl; left_stream = refl; left_owed = refl; moves = c.run.ensures.moves }; marks = refl; answers = tt; refuses = c.in-Err.ensures.refused _ }))
+    (ap len_of c.in-Primitive.is) refl refl c.limit-outer.ensures c.set_limit.ensures.limit c.set_limit.ensures.source limit source refl refl c.requires.fits
+    (ap is_constructed c.in-Primitive.is) (g.met.S.Source.sound c.args.self.now.source.now.source) (record {
+      handed = _;
+      left = of_primitive g.S.Source.stream c.run.new.inside;
+      runs = record {
+        stream = refl;
+        owed = refl;
+        kind = refl;
+        state = refl;
+        mode = refl;
+        marked = refl;
+        left_stream = refl;
+        left_owed = refl;
+        moves = c.run.ensures.moves;
+      };
+      marks = refl;
+      answers = tt;
+      refuses = c.in-Err.ensures.refused _;
+    }))
 
 pub close-requires-clause-taken : goal.close-requires-clause-taken
 unfolding of_primitive
-close-requires-clause-taken g c = (let h : c.run.new.inside.source.now.limit ≡ Some 0 = octets_taken _ _ c.run.ensures.moves refl refl (c.in-Ok.ensures.ok c.args.header.tag).done in search rules)
+close-requires-clause-taken g c = (let h : c.run.new.inside.source.now.limit ≡ Some 0 =
+    octets_taken _ _ c.run.ensures.moves refl refl (c.in-Ok.ensures.ok c.args.header.tag).done in search rules)
 
 pub close-requires-clause-fits : goal.close-requires-clause-fits
-close-requires-clause-fits g c = subst (λ z. FitsOwed z c.limit-outer.result) (ap len_of c.in-Primitive.is) (subst (FitsOwed (len_of c.args.header.form)) (sym c.limit-outer.ensures) c.requires.fits)
+close-requires-clause-fits g c = subst (λ z. FitsOwed z c.limit-outer.result) (ap len_of c.in-Primitive.is)
+    (subst (FitsOwed (len_of c.args.header.form)) (sym c.limit-outer.ensures) c.requires.fits)
 
 pub returns : goal.returns
 unfolding of_constructed of_primitive
@@ -35,7 +57,34 @@ returns g c =
     let limit : c.close.new.source.limit ≡ popped c.limit-outer.result c.in-Primitive.len c.run.new.inside.source.now.limit = search rules in
     let source : c.close.new.source.source ≡ c.run.new.inside.source.now.source = search rules in
     let old = c.args.self.now in let new = c.close.new.source in
-    let m : Reading = record { stream = limited_stream g.S.Source.stream new; owed = new.limit; kind = values old.kind; state = old.state; mode = old.mode; marked = (old.marked || c.run.new.inside.marked); name = old.source.ghost_name } in
-    taken _ m refl (takes_octets cause_of (of_primitive g.S.Source.stream) _ (of_constructed g.S.Source.stream c.args.self.now) m (header_of c.args.header) _ refl refl refl refl _ refl
+    let m : Reading = record {
+      stream = limited_stream g.S.Source.stream new;
+      owed = new.limit;
+      kind = values old.kind;
+      state = old.state;
+      mode = old.mode;
+      marked = (old.marked || c.run.new.inside.marked);
+      name = old.source.ghost_name;
+    } in
+    taken _ m refl (takes_octets cause_of (of_primitive g.S.Source.stream) _ (of_constructed g.S.Source.stream c.args.self.now) m
+    (header_of c.args.header) _ refl refl refl refl _ refl
     g.S.Source.stream c.in-Primitive.len c.args.self.now.source.now c.set_limit.new.self c.run.new.inside.source.now c.close.new.source c.limit-outer.result
-    (ap len_of c.in-Primitive.is) refl refl c.limit-outer.ensures c.set_limit.ensures.limit c.set_limit.ensures.source limit source refl refl c.requires.fits (ap is_constructed c.in-Primitive.is) (g.met.S.Source.sound c.args.self.now.source.now.source) (record { handed = _; left = of_primitive g.S.Source.stream c.run.new.inside; runs = record { stream = refl; owed = refl; kind = refl; state = refl; mode = refl; marked = refl; left_stream = refl; left_owed = refl; moves = c.run.ensures.moves }; marks = refl; answers = c.in-Ok.ensures.ok _; refuses = tt })) refl
+    (ap len_of c.in-Primitive.is) refl refl c.limit-outer.ensures c.set_limit.ensures.limit c.set_limit.ensures.source limit source refl refl c.requires.fits
+    (ap is_constructed c.in-Primitive.is) (g.met.S.Source.sound c.args.self.now.source.now.source) (record {
+      handed = _;
+      left = of_primitive g.S.Source.stream c.run.new.inside;
+      runs = record {
+        stream = refl;
+        owed = refl;
+        kind = refl;
+        state = refl;
+        mode = refl;
+        marked = refl;
+        left_stream = refl;
+        left_owed = refl;
+        moves = c.run.ensures.moves;
+      };
+      marks = refl;
+      answers = c.in-Ok.ensures.ok _;
+      refuses = tt;
+    })) refl

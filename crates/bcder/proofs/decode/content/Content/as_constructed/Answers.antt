@@ -9,13 +9,16 @@ pub returns-in-Constructed-clause-ok : goal.returns-in-Constructed-clause-ok
 returns-in-Constructed-clause-ok g c =
     let i = of_content g.S.Source.stream c.args.self.now in
     let j = of_constructed g.S.Source.stream c.op.new.arg2 in
-    on_ok_on (of_constructed g.S.Source.stream) _ i j c.op.result (record { handed = _; left = _; handed_is = sym (ap (of_content g.S.Source.stream) c.in-Constructed.is); left_is = refl; called = c.op.ensures })
+    on_ok_on (of_constructed g.S.Source.stream) _ i j c.op.result
+    (record { handed = _; left = _; handed_is = sym (ap (of_content g.S.Source.stream) c.in-Constructed.is); left_is = refl; called = c.op.ensures })
 
 pub returns-in-Constructed-clause-refused : goal.returns-in-Constructed-clause-refused
 returns-in-Constructed-clause-refused g c =
     let i = of_content g.S.Source.stream c.args.self.now in
     let j = of_constructed g.S.Source.stream c.op.new.arg2 in
-    on_err_on (of_constructed g.S.Source.stream) _ i j (λ e. (i.kind ≡ Octets) × (j ≡ i) × IsRefusal e) c.op.result (record { handed = _; left = _; handed_is = sym (ap (of_content g.S.Source.stream) c.in-Constructed.is); left_is = refl; called = c.op.ensures })
+    on_err_on (of_constructed g.S.Source.stream) _ i j (λ e. (i.kind ≡ Octets) × (j ≡ i) × IsRefusal e) c.op.result
+    (record { handed = _; left = _; handed_is = sym (ap (of_content g.S.Source.stream) c.in-Constructed.is); left_is = refl; called = c.op.ensures })
 
 pub returns-in-Primitive-clause-refused : goal.returns-in-Primitive-clause-refused
-returns-in-Primitive-clause-refused g c = inl (primitive_content g.S.Source.stream c.args.self.now _ c.in-Primitive.is, sym (ap (of_content g.S.Source.stream) c.in-Primitive.is), c.refusal.ensures)
+returns-in-Primitive-clause-refused g c =
+    inl (primitive_content g.S.Source.stream c.args.self.now _ c.in-Primitive.is, sym (ap (of_content g.S.Source.stream) c.in-Primitive.is), c.refusal.ensures)

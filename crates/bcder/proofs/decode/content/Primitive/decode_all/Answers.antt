@@ -7,12 +7,14 @@ use Rattle.bcder.proofs.decode.content.Primitive.decode_all.Goals as goal
 pub run_to_end-requires-clause-callable : goal.run_to_end-requires-clause-callable
 unfolding of_constructed of_primitive
 run_to_end-requires-clause-callable g c = λ p is.
-    c.requires.callable p (values_within (of_primitive g.S.Source.stream c.args.self.now) _ _ c.args.mode is (record { stream = refl; owed = refl; kind = refl; state = refl; mode = refl; marked = refl }))
+    c.requires.callable p (values_within (of_primitive g.S.Source.stream c.args.self.now) _ _ c.args.mode is
+    (record { stream = refl; owed = refl; kind = refl; state = refl; mode = refl; marked = refl }))
 
 pub run_to_end-requires-clause-lawful : goal.run_to_end-requires-clause-lawful
 unfolding of_constructed of_primitive
 run_to_end-requires-clause-lawful g c = λ p r q is.
-    c.requires.lawful p r q (values_within (of_primitive g.S.Source.stream c.args.self.now) _ _ c.args.mode is (record { stream = refl; owed = refl; kind = refl; state = refl; mode = refl; marked = refl }))
+    c.requires.lawful p r q (values_within (of_primitive g.S.Source.stream c.args.self.now) _ _ c.args.mode is
+    (record { stream = refl; owed = refl; kind = refl; state = refl; mode = refl; marked = refl }))
 
 pub returns-clause-moves : goal.returns-clause-moves
 unfolding of_constructed of_primitive

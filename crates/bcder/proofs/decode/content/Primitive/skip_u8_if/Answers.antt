@@ -10,4 +10,5 @@ pub returns-in-None-clause-read : goal.returns-in-None-clause-read
 returns-in-None-clause-read g c =
     let w : List ℕ = (of_primitive g.S.Source.stream c.args.self.now).stream.rest in
     let none : IsNoNumber (FitsUnsignedBits 8) w = subst (IsNoNumber (FitsUnsignedBits 8)) (search rules) c.in-None.ensures.none in
-    refuses_octets _ _ _ _ _ (search rules) (inr ((λ x m. none (pos x) m.integer m.fits), search rules)) (search rules) (search rules) (search rules) (search rules) (search rules)
+    refuses_octets _ _ _ _ _ (search rules) (inr ((λ x m. none (pos x) m.integer m.fits), search rules)) (search rules) (search rules) (search rules)
+    (search rules) (search rules)

@@ -9,7 +9,14 @@ unfolding of_primitive
 returns-in-Err g c = record {
   handed = _;
   left = of_primitive g.S.Source.stream c.op.new.arg2;
-  over = record { stream = ap (λ l. limited l (g.S.Source.stream c.args.source.now.source)) c.requires.limit; owed = c.requires.limit; kind = refl; state = refl; mode = refl; marked = refl };
+  over = record {
+    stream = ap (λ l. limited l (g.S.Source.stream c.args.source.now.source)) c.requires.limit;
+    owed = c.requires.limit;
+    kind = refl;
+    state = refl;
+    mode = refl;
+    marked = refl;
+  };
   moves = c.requires.lawful _ _ _ (record { stream = refl; owed = c.requires.limit; kind = refl; state = refl; mode = refl; marked = refl }) c.in-Err.ensures;
   answers = tt;
   refuses = by_closure (record { handed = _; left = _; handed_is = refl; left_is = refl; called = c.in-Err.ensures });
@@ -20,7 +27,14 @@ unfolding of_primitive
 returns-then-is_used_up g c = record {
   handed = _;
   left = of_primitive g.S.Source.stream c.op.new.arg2;
-  over = record { stream = ap (λ l. limited l (g.S.Source.stream c.args.source.now.source)) c.requires.limit; owed = c.requires.limit; kind = refl; state = refl; mode = refl; marked = refl };
+  over = record {
+    stream = ap (λ l. limited l (g.S.Source.stream c.args.source.now.source)) c.requires.limit;
+    owed = c.requires.limit;
+    kind = refl;
+    state = refl;
+    mode = refl;
+    marked = refl;
+  };
   moves = c.requires.lawful _ _ _ (record { stream = refl; owed = c.requires.limit; kind = refl; state = refl; mode = refl; marked = refl }) c.in-Ok.ensures;
   answers = record { answered = record { handed = _; left = _; handed_is = refl; left_is = refl; called = c.in-Ok.ensures }; done = search rules };
   refuses = tt;
@@ -31,8 +45,16 @@ unfolding of_primitive
 returns g c = record {
   handed = _;
   left = of_primitive g.S.Source.stream c.op.new.arg2;
-  over = record { stream = ap (λ l. limited l (g.S.Source.stream c.args.source.now.source)) c.requires.limit; owed = c.requires.limit; kind = refl; state = refl; mode = refl; marked = refl };
+  over = record {
+    stream = ap (λ l. limited l (g.S.Source.stream c.args.source.now.source)) c.requires.limit;
+    owed = c.requires.limit;
+    kind = refl;
+    state = refl;
+    mode = refl;
+    marked = refl;
+  };
   moves = c.requires.lawful _ _ _ (record { stream = refl; owed = c.requires.limit; kind = refl; state = refl; mode = refl; marked = refl }) c.in-Ok.ensures;
   answers = tt;
-  refuses = left_octets c.in-Ok.value (record { handed = _; left = _; handed_is = refl; left_is = refl; called = c.in-Ok.ensures }) (c.is_used_up.ensures.no c.if-is_used_up.false) c.refusal.ensures;
+  refuses = left_octets c.in-Ok.value (record { handed = _; left = _; handed_is = refl; left_is = refl; called = c.in-Ok.ensures })
+      (c.is_used_up.ensures.no c.if-is_used_up.false) c.refusal.ensures;
 }

@@ -19,7 +19,8 @@ loop-preserved g c =
     let k = of_constructed g.S.Source.stream c.skip_one.new.self in
     let p = c.in_ok-skip_one.ensures.skipped in
     record {
-      walks = walks_value i j k (within_constructed g.S.Source.stream g.met.S.Source.sound c.loop.cons) c.loop.invariant.walks (c.skip_one.ensures.moves j (untouched_is_moved j)) p.mode p.marked (some_value (PassesValue j k) _ c.if-is_some.ensures p.value);
+      walks = walks_value i j k (within_constructed g.S.Source.stream g.met.S.Source.sound c.loop.cons) c.loop.invariant.walks
+          (c.skip_one.ensures.moves j (untouched_is_moved j)) p.mode p.marked (some_value (PassesValue j k) _ c.if-is_some.ensures p.value);
       no_fault = p.no_fault ∙ c.loop.invariant.no_fault;
     }
 
@@ -39,7 +40,8 @@ returns-in_err-skip_one-clause-passed g c =
     let i = of_constructed g.S.Source.stream c.args.cons.now in
     let j = of_constructed g.S.Source.stream c.loop.cons in
     let k = of_constructed g.S.Source.stream c.skip_one.new.self in
-    pass_refused i k c.from_residual.result _ c.from_residual.ensures.1 (loop_refused_one _ i j k (constructed_form g.S.Source.stream c.args.cons.now) c.loop.invariant.walks c.in_err-skip_one.ensures.skipped.refused) (c.in_err-skip_one.ensures.skipped.marked ∙ c.loop.invariant.walks.marked)
+    pass_refused i k c.from_residual.result _ c.from_residual.ensures.1 (loop_refused_one _ i j k (constructed_form g.S.Source.stream c.args.cons.now)
+    c.loop.invariant.walks c.in_err-skip_one.ensures.skipped.refused) (c.in_err-skip_one.ensures.skipped.marked ∙ c.loop.invariant.walks.marked)
 
 pub returns-clause-moves : goal.returns-clause-moves
 returns-clause-moves g c =
@@ -55,7 +57,8 @@ returns-clause-passed g c =
     record {
       passed = record {
         done = none_value (IsDone k) _ c.if-is_some.ensures p.done;
-        all = walks_all i j k (constructed_form g.S.Source.stream c.args.cons.now) c.loop.invariant.walks (none_value (EndsAt j k) _ c.if-is_some.ensures p.end);
+        all = walks_all i j k (constructed_form g.S.Source.stream c.args.cons.now) c.loop.invariant.walks
+            (none_value (EndsAt j k) _ c.if-is_some.ensures p.end);
       };
       no_fault = p.no_fault ∙ c.loop.invariant.no_fault;
       refused = tt;

@@ -7,7 +7,17 @@ unfolding of_constructed
 returns g c = record {
   handed = _;
   left = of_constructed g.S.Source.stream c.run.new.cons;
-  runs = record { stream = refl; owed = refl; kind = refl; state = refl; mode = refl; marked = refl; left_stream = search rules; left_owed = search rules; moves = c.run.ensures.moves };
+  runs = record {
+    stream = refl;
+    owed = refl;
+    kind = refl;
+    state = refl;
+    mode = refl;
+    marked = refl;
+    left_stream = search rules;
+    left_owed = search rules;
+    moves = c.run.ensures.moves;
+  };
   usable = c.run.ensures.usable;
   answers = c.run.ensures.ok;
   refuses = c.run.ensures.refused;

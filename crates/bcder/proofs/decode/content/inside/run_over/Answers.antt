@@ -5,10 +5,12 @@ use Rattle.bcder.proofs.SameBorrow.{name_of_content}
 use Rattle.bcder.proofs.decode.content.inside.run_over.Goals as goal
 
 pub returns-in-Primitive-clause-name : goal.returns-in-Primitive-clause-name
-returns-in-Primitive-clause-name g c = sym (ap content_name c.in-Primitive.is) ∙ sym (name_of_content g.S.Source.stream c.run-result.new.inside) ∙ c.run-result.ensures.name ∙ name_of_content g.S.Source.stream c.args.content
+returns-in-Primitive-clause-name g c = sym (ap content_name c.in-Primitive.is) ∙ sym (name_of_content g.S.Source.stream c.run-result.new.inside)
+    ∙ c.run-result.ensures.name ∙ name_of_content g.S.Source.stream c.args.content
 
 pub returns-in-Constructed-clause-name : goal.returns-in-Constructed-clause-name
-returns-in-Constructed-clause-name g c = sym (ap content_name c.in-Constructed.is) ∙ sym (name_of_content g.S.Source.stream c.run-result.new.inside) ∙ c.run-result.ensures.name ∙ name_of_content g.S.Source.stream c.args.content
+returns-in-Constructed-clause-name g c = sym (ap content_name c.in-Constructed.is) ∙ sym (name_of_content g.S.Source.stream c.run-result.new.inside)
+    ∙ c.run-result.ensures.name ∙ name_of_content g.S.Source.stream c.args.content
 
 pub returns-in-Primitive-clause-ran : goal.returns-in-Primitive-clause-ran
 unfolding of_primitive
@@ -17,7 +19,17 @@ returns-in-Primitive-clause-ran g c = λ t.
     record {
       handed = of_content g.S.Source.stream c.args.content;
       left = of_content g.S.Source.stream left;
-      runs = record { stream = refl; owed = refl; kind = refl; state = c.requires.usable; mode = refl; marked = c.requires.unmarked; left_stream = ap (λ z. (of_content g.S.Source.stream z).stream) c.in-Primitive.is; left_owed = ap (λ z. (of_content g.S.Source.stream z).owed) c.in-Primitive.is; moves = c.run-result.ensures.moves };
+      runs = record {
+        stream = refl;
+        owed = refl;
+        kind = refl;
+        state = c.requires.usable;
+        mode = refl;
+        marked = c.requires.unmarked;
+        left_stream = ap (λ z. (of_content g.S.Source.stream z).stream) c.in-Primitive.is;
+        left_owed = ap (λ z. (of_content g.S.Source.stream z).owed) c.in-Primitive.is;
+        moves = c.run-result.ensures.moves;
+      };
       marks = ap (λ z. (of_content g.S.Source.stream z).marked) c.in-Primitive.is;
       answers = ok_at _ t _ c.run-result.ensures.ok;
       refuses = err_at _ t _ c.run-result.ensures.refused;
@@ -30,7 +42,17 @@ returns-in-Constructed-clause-ran g c = λ t.
     record {
       handed = of_content g.S.Source.stream c.args.content;
       left = of_content g.S.Source.stream left;
-      runs = record { stream = refl; owed = refl; kind = refl; state = c.requires.usable; mode = refl; marked = c.requires.unmarked; left_stream = ap (λ z. (of_content g.S.Source.stream z).stream) c.in-Constructed.is; left_owed = ap (λ z. (of_content g.S.Source.stream z).owed) c.in-Constructed.is; moves = c.run-result.ensures.moves };
+      runs = record {
+        stream = refl;
+        owed = refl;
+        kind = refl;
+        state = c.requires.usable;
+        mode = refl;
+        marked = c.requires.unmarked;
+        left_stream = ap (λ z. (of_content g.S.Source.stream z).stream) c.in-Constructed.is;
+        left_owed = ap (λ z. (of_content g.S.Source.stream z).owed) c.in-Constructed.is;
+        moves = c.run-result.ensures.moves;
+      };
       marks = ap (λ z. (of_content g.S.Source.stream z).marked) c.in-Constructed.is;
       answers = ok_at _ t _ c.run-result.ensures.ok;
       refuses = err_at _ t _ c.run-result.ensures.refused;

@@ -16,5 +16,6 @@ returns-after-is_memory c =
       | then-is_memory w ↦ as_other _ _ _ w.result-is w.is_list.ensures
       | else-is_memory w ↦
           let n : is_memory_cause (cause_of c.in-Err.error) ≡ false = search rules in
-          as_no _ _ (search rules) (λ v. let x : false ≡ true = c.in-Err.ensures.exact never_grew (λ m. not_memory _ n m) refl (values_there _ c.args.mode c.args.octets.now refl refl (search rules) v) in cc)
+          as_no _ _ (search rules) (λ v. let x : false ≡ true =
+          c.in-Err.ensures.exact never_grew (λ m. not_memory _ n m) refl (values_there _ c.args.mode c.args.octets.now refl refl (search rules) v) in cc)
     ]

@@ -6,7 +6,8 @@ use Rattle.bcder.proofs.decode.content.skip.go_into.Goals as goal
 
 pub returns-in-Ok-clause-gone : goal.returns-in-Ok-clause-gone
 returns-in-Ok-clause-gone g c = record {
-  goes = octets c.in-Primitive.len (ap is_constructed c.in-Primitive.is) (ap len_of c.in-Primitive.is) c.in-Ok.ensures.enough refl c.in-Ok.ensures.rest c.skip_owed.ensures.kept c.in-Ok.ensures.limit;
+  goes = octets c.in-Primitive.len (ap is_constructed c.in-Primitive.is)
+      (ap len_of c.in-Primitive.is) c.in-Ok.ensures.enough refl c.in-Ok.ensures.rest c.skip_owed.ensures.kept c.in-Ok.ensures.limit;
   no_fault = c.in-Ok.ensures.no_fault;
   stays = tt;
   entries = tt;

@@ -10,7 +10,9 @@ abbrev pub invariant-loop-opened : goal.invariant-loop-opened
 invariant-loop-opened g l = record {
   callable : goal.F-IsAlwaysCallable g l.op;
   counted : IsCounted l.opened;
-  went : (calls : List Heading) × Called (goal.F-step g) l.fn.op (heading (header_of l.fn.outermost) 0 ∷ calls) l.op × IsUnderWay l.fn.mode (header_of l.fn.outermost) (g.S.Source.stream l.fn.source.source) l.fn.source.limit calls (entries l.opened) (source_of g.S.Source.stream l.cons) (limit_in l.cons);
+  went : (calls : List Heading) × Called (goal.F-step g) l.fn.op (heading (header_of l.fn.outermost) 0 ∷ calls) l.op
+      × IsUnderWay l.fn.mode (header_of l.fn.outermost) (g.S.Source.stream l.fn.source.source) l.fn.source.limit calls (entries l.opened)
+      (source_of g.S.Source.stream l.cons) (limit_in l.cons);
   top : TopIs (entries l.opened) l.cons.kind;
   state : l.cons.state ≡ Open;
   mode : l.cons.mode ≡ l.fn.mode;

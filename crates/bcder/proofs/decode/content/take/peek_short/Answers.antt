@@ -12,6 +12,8 @@ returns-in-len2-up-clause-peeked g c = λ mode.
     (λ x. (
       c.in-len2-up.len_at_least,
       header_of_front mode _ _ _
-          (short_stands mode (take c.in_ok-found.found c.slice.result.now) x _ _ _ c.in-len2-up.len_at_least (c.leads_primitive.ensures.number c.if-leads_primitive.true) c.if-len-lt128.true (c.leads_primitive.ensures.tag c.if-leads_primitive.true) (sym (c.leads_primitive.ensures.form c.if-leads_primitive.true)) c.from.ensures)
+          (short_stands mode (take c.in_ok-found.found c.slice.result.now) x _ _ _ c.in-len2-up.len_at_least
+          (c.leads_primitive.ensures.number c.if-leads_primitive.true) c.if-len-lt128.true (c.leads_primitive.ensures.tag c.if-leads_primitive.true)
+          (sym (c.leads_primitive.ensures.form c.if-leads_primitive.true)) c.from.ensures)
           (sym c.is_value.ensures ∙ c.if-is_value.true) refl,
     ))

@@ -15,33 +15,55 @@ pub returns-in-Ok-true-clause-moves : goal.returns-in-Ok-true-clause-moves
 returns-in-Ok-true-clause-moves g c = moved_carries _ _ c.pass_at_hand.ensures.moves
 
 pub returns-in-Ok-true-clause-exact : goal.returns-in-Ok-true-clause-exact
-returns-in-Ok-true-clause-exact g c = answers_next cause_of (of_constructed g.S.Source.stream c.args.cons.now) (of_constructed g.S.Source.stream c.pass_at_hand.new.self) (Ok (Some _)) (within_constructed g.S.Source.stream g.met.S.Source.sound c.args.cons.now) (c.in-Ok-true.ensures.passed.passed c.in-Ok-true.field-0-test) tt tt
+returns-in-Ok-true-clause-exact g c =
+    answers_next cause_of (of_constructed g.S.Source.stream c.args.cons.now) (of_constructed g.S.Source.stream c.pass_at_hand.new.self) (Ok (Some _))
+    (within_constructed g.S.Source.stream g.met.S.Source.sound c.args.cons.now) (c.in-Ok-true.ensures.passed.passed c.in-Ok-true.field-0-test) tt tt
 
 pub returns-in-Ok-clause-moves : goal.returns-in-Ok-clause-moves
 returns-in-Ok-clause-moves g c = moved_carries _ _ (moved_twice_is_moved _ _ _ c.pass_at_hand.ensures.moves c.walk_copy.ensures.moves)
 
 pub returns-in-Ok-clause-passed : goal.returns-in-Ok-clause-passed
 returns-in-Ok-clause-passed g c =
-    let p = looked_next stop_cause (of_constructed g.S.Source.stream c.args.cons.now) (of_constructed g.S.Source.stream c.pass_at_hand.new.self) (of_constructed g.S.Source.stream c.walk_copy.new.cons) (c.in-Ok-false.ensures.passed.same c.in-Ok-false.field-0-test) c.in-Ok-false.ensures.passed.no_fault (Ok c.in-Ok.passed) c.in-Ok.ensures.passed in
+    let p = looked_next stop_cause (of_constructed g.S.Source.stream c.args.cons.now) (of_constructed g.S.Source.stream c.pass_at_hand.new.self)
+    (of_constructed g.S.Source.stream c.walk_copy.new.cons)
+    (c.in-Ok-false.ensures.passed.same c.in-Ok-false.field-0-test) c.in-Ok-false.ensures.passed.no_fault (Ok c.in-Ok.passed) c.in-Ok.ensures.passed in
     record { value = p.value; end = p.end; done = p.done; no_fault = p.no_fault; refused = tt; failed = tt; mode = p.mode; marked = p.marked }
 
 pub returns-in-Ok-clause-exact : goal.returns-in-Ok-clause-exact
 returns-in-Ok-clause-exact g c =
-    let p = looked_next stop_cause (of_constructed g.S.Source.stream c.args.cons.now) (of_constructed g.S.Source.stream c.pass_at_hand.new.self) (of_constructed g.S.Source.stream c.walk_copy.new.cons) (c.in-Ok-false.ensures.passed.same c.in-Ok-false.field-0-test) c.in-Ok-false.ensures.passed.no_fault (Ok c.in-Ok.passed) c.in-Ok.ensures.passed in
-    answers_next cause_of (of_constructed g.S.Source.stream c.args.cons.now) (of_constructed g.S.Source.stream c.walk_copy.new.cons) (Ok c.in-Ok.passed) (within_constructed g.S.Source.stream g.met.S.Source.sound c.args.cons.now) p.value p.end tt
+    let p = looked_next stop_cause (of_constructed g.S.Source.stream c.args.cons.now) (of_constructed g.S.Source.stream c.pass_at_hand.new.self)
+    (of_constructed g.S.Source.stream c.walk_copy.new.cons)
+    (c.in-Ok-false.ensures.passed.same c.in-Ok-false.field-0-test) c.in-Ok-false.ensures.passed.no_fault (Ok c.in-Ok.passed) c.in-Ok.ensures.passed in
+    answers_next cause_of (of_constructed g.S.Source.stream c.args.cons.now) (of_constructed g.S.Source.stream c.walk_copy.new.cons) (Ok c.in-Ok.passed)
+    (within_constructed g.S.Source.stream g.met.S.Source.sound c.args.cons.now) p.value p.end tt
 
 pub returns-in-Err-walk_copy-clause-moves : goal.returns-in-Err-walk_copy-clause-moves
 returns-in-Err-walk_copy-clause-moves g c = moved_carries _ _ (moved_twice_is_moved _ _ _ c.pass_at_hand.ensures.moves c.walk_copy.ensures.moves)
 
 pub returns-in-Err-walk_copy-clause-passed : goal.returns-in-Err-walk_copy-clause-passed
 returns-in-Err-walk_copy-clause-passed g c =
-    let p = looked_next stop_cause (of_constructed g.S.Source.stream c.args.cons.now) (of_constructed g.S.Source.stream c.pass_at_hand.new.self) (of_constructed g.S.Source.stream c.walk_copy.new.cons) (c.in-Ok-false.ensures.passed.same c.in-Ok-false.field-0-test) c.in-Ok-false.ensures.passed.no_fault (Err c.in-Err-walk_copy.stop) c.in-Err-walk_copy.ensures.passed in
-    record { value = tt; end = tt; done = tt; no_fault = tt; refused = walk_stopped stop_cause cause_of _ _ c.stop_error.ensures _ _ p.refused; failed = p.failed; mode = p.mode; marked = p.marked }
+    let p = looked_next stop_cause (of_constructed g.S.Source.stream c.args.cons.now) (of_constructed g.S.Source.stream c.pass_at_hand.new.self)
+    (of_constructed g.S.Source.stream c.walk_copy.new.cons) (c.in-Ok-false.ensures.passed.same c.in-Ok-false.field-0-test)
+    c.in-Ok-false.ensures.passed.no_fault (Err c.in-Err-walk_copy.stop) c.in-Err-walk_copy.ensures.passed in
+    record {
+      value = tt;
+      end = tt;
+      done = tt;
+      no_fault = tt;
+      refused = walk_stopped stop_cause cause_of _ _ c.stop_error.ensures _ _ p.refused;
+      failed = p.failed;
+      mode = p.mode;
+      marked = p.marked;
+    }
 
 pub returns-in-Err-walk_copy-clause-exact : goal.returns-in-Err-walk_copy-clause-exact
 returns-in-Err-walk_copy-clause-exact g c =
-    let p = looked_next stop_cause (of_constructed g.S.Source.stream c.args.cons.now) (of_constructed g.S.Source.stream c.pass_at_hand.new.self) (of_constructed g.S.Source.stream c.walk_copy.new.cons) (c.in-Ok-false.ensures.passed.same c.in-Ok-false.field-0-test) c.in-Ok-false.ensures.passed.no_fault (Err c.in-Err-walk_copy.stop) c.in-Err-walk_copy.ensures.passed in
-    answers_next cause_of (of_constructed g.S.Source.stream c.args.cons.now) (of_constructed g.S.Source.stream c.walk_copy.new.cons) (Err c.stop_error.result) (within_constructed g.S.Source.stream g.met.S.Source.sound c.args.cons.now) tt tt (walk_stopped stop_cause cause_of _ _ c.stop_error.ensures _ _ p.refused)
+    let p = looked_next stop_cause (of_constructed g.S.Source.stream c.args.cons.now) (of_constructed g.S.Source.stream c.pass_at_hand.new.self)
+    (of_constructed g.S.Source.stream c.walk_copy.new.cons) (c.in-Ok-false.ensures.passed.same c.in-Ok-false.field-0-test)
+    c.in-Ok-false.ensures.passed.no_fault (Err c.in-Err-walk_copy.stop) c.in-Err-walk_copy.ensures.passed in
+    answers_next cause_of (of_constructed g.S.Source.stream c.args.cons.now) (of_constructed g.S.Source.stream c.walk_copy.new.cons) (Err c.stop_error.result)
+    (within_constructed g.S.Source.stream g.met.S.Source.sound c.args.cons.now) tt tt
+    (walk_stopped stop_cause cause_of _ _ c.stop_error.ensures _ _ p.refused)
 
 pub returns-in-Err-clause-moves : goal.returns-in-Err-clause-moves
 returns-in-Err-clause-moves g c = moved_carries _ _ c.pass_at_hand.ensures.moves
@@ -49,9 +71,20 @@ returns-in-Err-clause-moves g c = moved_carries _ _ c.pass_at_hand.ensures.moves
 pub returns-in-Err-clause-passed : goal.returns-in-Err-clause-passed
 returns-in-Err-clause-passed g c =
     let p = c.in-Err.ensures.passed in
-    record { value = tt; end = tt; done = tt; no_fault = tt; refused = source (c.stop_error-in-Err.ensures ∙ p.fault.0) p.fault.1; failed = p.failed; mode = p.mode; marked = p.marked }
+    record {
+      value = tt;
+      end = tt;
+      done = tt;
+      no_fault = tt;
+      refused = source (c.stop_error-in-Err.ensures ∙ p.fault.0) p.fault.1;
+      failed = p.failed;
+      mode = p.mode;
+      marked = p.marked;
+    }
 
 pub returns-in-Err-clause-exact : goal.returns-in-Err-clause-exact
 returns-in-Err-clause-exact g c =
     let p = c.in-Err.ensures.passed in
-    answers_next cause_of (of_constructed g.S.Source.stream c.args.cons.now) (of_constructed g.S.Source.stream c.pass_at_hand.new.self) (Err c.stop_error-in-Err.result) (within_constructed g.S.Source.stream g.met.S.Source.sound c.args.cons.now) tt tt (source (c.stop_error-in-Err.ensures ∙ p.fault.0) p.fault.1)
+    answers_next cause_of (of_constructed g.S.Source.stream c.args.cons.now) (of_constructed g.S.Source.stream c.pass_at_hand.new.self)
+    (Err c.stop_error-in-Err.result) (within_constructed g.S.Source.stream g.met.S.Source.sound c.args.cons.now) tt tt
+    (source (c.stop_error-in-Err.ensures ∙ p.fault.0) p.fault.1)

@@ -9,13 +9,15 @@ pub returns-in-Ok-Some-clause-moves : goal.returns-in-Ok-Some-clause-moves
 unfolding of_constructed
 returns-in-Ok-Some-clause-moves g c =
     let w = rw c.in-Ok-Some.field-0-is at c.in-Ok-Some.ensures.passed in
-    moves_behind c.args.cons.now.source.ghost_name _ _ _ refl refl refl (w.value.stays ∙ sym w.value.has.usable) refl refl refl c.walk_any.ensures.moves w.mode w.marked
+    moves_behind c.args.cons.now.source.ghost_name _ _ _ refl refl refl
+    (w.value.stays ∙ sym w.value.has.usable) refl refl refl c.walk_any.ensures.moves w.mode w.marked
 
 pub returns-in-Ok-Some-clause-passed : goal.returns-in-Ok-Some-clause-passed
 unfolding of_constructed
 returns-in-Ok-Some-clause-passed g c =
     let w = rw c.in-Ok-Some.field-0-is at c.in-Ok-Some.ensures.passed in
-    passed_behind c.args.cons.now.source.ghost_name _ _ _ refl refl refl (w.value.stays ∙ sym w.value.has.usable) refl refl refl c.walk_any.ensures.moves w.mode w.marked stop_cause (Ok (Some _)) w
+    passed_behind c.args.cons.now.source.ghost_name _ _ _ refl refl refl
+    (w.value.stays ∙ sym w.value.has.usable) refl refl refl c.walk_any.ensures.moves w.mode w.marked stop_cause (Ok (Some _)) w
 
 pub returns-in-Ok-None-clause-moves : goal.returns-in-Ok-None-clause-moves
 unfolding of_constructed
@@ -39,4 +41,5 @@ pub returns-in-Err-clause-passed : goal.returns-in-Err-clause-passed
 unfolding of_constructed
 returns-in-Err-clause-passed g c =
     let w = c.in-Err.ensures.passed in
-    passed_behind c.args.cons.now.source.ghost_name _ _ _ refl refl refl w.failed refl refl refl c.walk_any.ensures.moves w.mode w.marked stop_cause (Err c.in-Err.stop) w
+    passed_behind c.args.cons.now.source.ghost_name _ _ _ refl refl refl w.failed refl refl refl c.walk_any.ensures.moves w.mode w.marked
+    stop_cause (Err c.in-Err.stop) w

@@ -23,5 +23,6 @@ returns-in_default-peeked c =
     record {
       violates = tt;
       refused = λ e. absurd (let z : false ≡ true = e in cc);
-      none = λ _ l. front_told c.args.mode c.args.octets.now c.in-Some.peeked o l (alone c.args.mode c.args.octets.now c.in-Some.peeked c.in-Some.ensures) (λ v e. c.in_default-peeked.not-Refused v e);
+      none = λ _ l. front_told c.args.mode c.args.octets.now c.in-Some.peeked o l (alone c.args.mode c.args.octets.now c.in-Some.peeked c.in-Some.ensures)
+          (λ v e. c.in_default-peeked.not-Refused v e);
     }

@@ -12,4 +12,5 @@ put_contents-requires g c =
     omega (arith, c.requires.fits, len_is, ap length same)
 
 pub returns : goal.returns
-returns g c = λ one w meant. same_octets (ap (definite c.args.tag false) (sym (string_is LongCerPrimitive c.args._mode c.args.octets.now w meant))) c.put_contents.ensures
+returns g c = λ one w meant. same_octets
+    (ap (definite c.args.tag false) (sym (string_is LongCerPrimitive c.args._mode c.args.octets.now w meant))) c.put_contents.ensures

@@ -17,4 +17,5 @@ returns g c = λ e meant.
     let gives = c.call_on-value.ensures in
     let can = c.requires.may.1 _ gives.shown gives.shows gives.met in
     let one = (g.met.V.Values.lawful c.call_on-value.result c.args.mode can).one in
-    lacks_more _ (λ h. record { value = c.call_on-value.result; given = gives; lacks = h }) (c.write_known.ensures.written one e (item_means g.F.Fn c.args.f.now c.requires.may gives _ meant))
+    lacks_more _ (λ h. record { value = c.call_on-value.result; given = gives; lacks = h })
+    (c.write_known.ensures.written one e (item_means g.F.Fn c.args.f.now c.requires.may gives _ meant))

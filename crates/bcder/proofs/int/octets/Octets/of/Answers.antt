@@ -1,4 +1,5 @@
-use Rattle.std.proofs.Common.{◌≡◌, ℕ, zero, suc, ◌<◌, ◌≤◌, ◌+◌, ◌-◌, ◌*◌, ◌/◌, ◌%◌, ◌^◌, ◌++◌, ◌∷◌, [], List, length, drop, Bool, true, false, nat_lt, refl, sym, ap, ◌∙◌, subst, arith, replicate}
+use Rattle.std.proofs.Common.{◌≡◌, ℕ, zero, suc, ◌<◌, ◌≤◌, ◌+◌, ◌-◌, ◌*◌, ◌/◌, ◌%◌, ◌^◌, ◌++◌, ◌∷◌, [], List, length, drop}
+use Rattle.std.proofs.Common.{Bool, true, false, nat_lt, refl, sym, ap, ◌∙◌, subst, arith, replicate}
 use Rattle.std.specs.Prelude.{⊤}
 use Rattle.std.specs.Int.{complement_if, byte_at, bytes_high_first, leading_zeros, w128}
 use Rattle.std.proofs.lemmas.List.{drop-append-le}
@@ -82,7 +83,8 @@ counted n h =
 
 -- ---- they stand at the end
 
-at_end : (k c : ℕ) (neg : Bool) (n x lead : ℕ) → c ≤ k → n < 256 ^ k → Behind c n → IsTurned neg k n x → lead ≡ octet neg 0 → octets_within k neg n ≡ drop (k - c) (lead ∷ bytes_high_first k x)
+at_end : (k c : ℕ) (neg : Bool) (n x lead : ℕ) → c ≤ k → n < 256 ^ k → Behind c n → IsTurned neg k n x → lead ≡ octet neg 0
+    → octets_within k neg n ≡ drop (k - c) (lead ∷ bytes_high_first k x)
 at_end zero zero neg n x lead fits below b t is = let none : n % 256 ≡ 0 = omega (arith, below) in ap (λ d. octet neg d ∷ []) none ∙ ap (λ o. o ∷ []) (sym is)
 at_end zero (suc c) neg n x lead fits below b t is = absurd (omega (arith, fits))
 at_end (suc j) zero neg n x lead fits below b t is =
@@ -90,7 +92,8 @@ at_end (suc j) zero neg n x lead fits below b t is =
     let same : n % 256 ≡ n = omega (arith, small) in
     let all : suc j - 0 ≡ suc j = omega arith in
     let front = bytes_high_first j (x / 256) in
-    let cut : drop j (front ++ x % 256 ∷ []) ≡ x % 256 ∷ [] = ap (λ i. drop i (front ++ x % 256 ∷ [])) (sym (bytes_length j (x / 256))) ∙ drop-append_seam front (x % 256 ∷ []) in
+    let cut : drop j (front ++ x % 256 ∷ []) ≡ x % 256 ∷ [] =
+    ap (λ i. drop i (front ++ x % 256 ∷ [])) (sym (bytes_length j (x / 256))) ∙ drop-append_seam front (x % 256 ∷ []) in
     last_octet (suc j) neg n small
     ∙ ap (λ d. octet neg d ∷ []) (sym same)
     ∙ ap (λ o. o ∷ []) (sym (turned_next neg j n x t).1)
@@ -121,7 +124,8 @@ is_those : (neg : Bool) (n : ℕ) → n < 2 ^ 128 → octets_within 16 neg n ≡
 is_those neg n h = one_integer _ _ _ (octets_are 16 neg n) (integer_octets_are _) (told_by_sign neg n h) ((some_integer _).1)
 
 -- what stands at the end of the buffer
-ends : (neg : Bool) (n x lead : ℕ) (buffer : List ℕ) → n < 2 ^ 128 → IsTurned neg 16 n x → lead ≡ octet neg 0 → buffer ≡ replicate 8 lead ++ bytes_high_first 16 x
+ends : (neg : Bool) (n x lead : ℕ) (buffer : List ℕ) → n < 2 ^ 128 → IsTurned neg 16 n x → lead ≡ octet neg 0
+    → buffer ≡ replicate 8 lead ++ bytes_high_first 16 x
     → octets_within 16 neg n ≡ drop (23 - (128 - leading_zeros w128 n) / 8) buffer
 ends neg n x lead buffer h t is whole =
     let (b, fits) = counted n h in
@@ -131,11 +135,13 @@ ends neg n x lead buffer h t is whole =
 
 pub returns-clause-octets : goal.returns-clause-octets
 returns-clause-octets c =
-    sym (ends c.args.negative c.args.magnitude c.bits_of.result c.turned.result _ c.ranges.magnitude.fits c.bits_of.ensures c.turned.ensures c.behind-buffer.ensures)
+    sym (ends c.args.negative c.args.magnitude c.bits_of.result c.turned.result _ c.ranges.magnitude.fits c.bits_of.ensures c.turned.ensures
+    c.behind-buffer.ensures)
     ∙ is_those c.args.negative c.args.magnitude c.ranges.magnitude.fits
 
 pub returns-clause-integer : goal.returns-clause-integer
 returns-clause-integer c =
     subst (AreInteger (complement_if c.args.negative c.args.magnitude))
-    (ends c.args.negative c.args.magnitude c.bits_of.result c.turned.result _ c.ranges.magnitude.fits c.bits_of.ensures c.turned.ensures c.behind-buffer.ensures)
+    (ends c.args.negative c.args.magnitude c.bits_of.result c.turned.result _ c.ranges.magnitude.fits c.bits_of.ensures c.turned.ensures
+    c.behind-buffer.ensures)
     (told_by_sign c.args.negative c.args.magnitude c.ranges.magnitude.fits)

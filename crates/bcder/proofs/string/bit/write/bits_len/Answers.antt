@@ -8,8 +8,12 @@ use Rattle.bcder.proofs.string.bit.write.bits_len.Goals as goal
 pub returns-then-fits_primitive : goal.returns-then-fits_primitive
 returns-then-fits_primitive c =
     let x : Bits = record { unused = c.args._unused; octets = c.args.octets.now } in
-    let o : AreOctets c.args.octets.now = λ i. omega (arith, c.type_inv.octets i) in
-    (contents_octets (as_written c.args.mode x), bits_fit c.args.refusal c.args.mode x (omega arith) o (sym c.fits_primitive.ensures ∙ c.if-fits_primitive.true), omega (arith, as_many_octets c.args.mode x))
+    let o : AreOctets c.args.octets.now = λ i. omega (arith, c.type_inv.octets i) in (
+      contents_octets (as_written c.args.mode x),
+      bits_fit c.args.refusal c.args.mode x (omega arith) o
+          (sym c.fits_primitive.ensures ∙ c.if-fits_primitive.true),
+      omega (arith, as_many_octets c.args.mode x),
+    )
 
 pub returns-else-fits_primitive : goal.returns-else-fits_primitive
 returns-else-fits_primitive c =

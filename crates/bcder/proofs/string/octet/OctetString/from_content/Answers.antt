@@ -19,7 +19,10 @@ returns-in-Err-clause-read g c =
     let i = of_primitive g.S.Source.stream c.in-Primitive.octets in
     let j = of_primitive g.S.Source.stream c.take_piece.new.octets in
     subst (λ z. ReadsAny {T = StringOctets} MeansString (of_content g.S.Source.stream z) (Err c.in-Err.error) j) (sym c.in-Primitive.is)
-    (record { at_tag = λ tag. piece_refused MeansString octets_in_one tag i j (octets_form g.S.Source.stream c.in-Primitive.octets) c.in-Err.error (c.in-Err.ensures.read.at_tag tag) })
+    (record {
+      at_tag = λ tag. piece_refused MeansString octets_in_one tag i j (octets_form g.S.Source.stream c.in-Primitive.octets) c.in-Err.error
+          (c.in-Err.ensures.read.at_tag tag);
+    })
 
 pub returns-in-Constructed-clause-read : goal.returns-in-Constructed-clause-read
 returns-in-Constructed-clause-read g c =

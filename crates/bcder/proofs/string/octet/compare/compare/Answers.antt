@@ -14,7 +14,8 @@ pub returns-then-ne : goal.returns-then-ne
 returns-then-ne c =
     let one = c.split_at.ensures in
     let other = c.split_at-in-loop-ones.ensures in
-    c.cmp-then-ne.ensures ∙ fronts_told _ _ _ _ _ _ _ _ _ one.by_index.0 other.by_index.0 (one.front_len ∙ sym other.front_len) c.loop-ones.invariant.left c.if-ne.ensures
+    c.cmp-then-ne.ensures ∙ fronts_told _ _ _ _ _ _ _ _ _ one.by_index.0 other.by_index.0
+    (one.front_len ∙ sym other.front_len) c.loop-ones.invariant.left c.if-ne.ensures
 
 -- the fronts are equal
 pub loop-ones-preserved : goal.loop-ones-preserved
@@ -24,7 +25,8 @@ loop-ones-preserved c =
     let ones = c.front-one-in-loop-ones.ensures in
     let others = c.front-other-in-loop-ones.ensures in
     record {
-      left = fronts_passed _ _ _ _ _ _ _ _ _ one.by_index.0 other.by_index.0 (one.front_len ∙ sym other.front_len) c.loop-ones.invariant.left _ _ c.if-ne.ensures ones.joined others.joined;
+      left = fronts_passed _ _ _ _ _ _ _ _ _ one.by_index.0 other.by_index.0
+          (one.front_len ∙ sym other.front_len) c.loop-ones.invariant.left _ _ c.if-ne.ensures ones.joined others.joined;
       one_ends = ones.all;
       other_ends = others.all;
     }

@@ -11,4 +11,5 @@ returns-in-Cer c =
     let table = rw c.in-Cut.is at c.string.invariant in
     let view = rw c.in-Cut.is at c.string.view_is in
     let octets = subst (λ (s : StringOctets). AreOctets (octets_of s)) view (parts_octets _ _ _ table.segmented) in
-    subst (λ (M : Meaning → Type 0). SizeOfValues M ⊥ c.string_len.result) (sym (by_octets c.args.tag c.args.string.now c.args.mode c.in-Cer.is)) (c.string_len.ensures _ octets c.len.ensures)
+    subst (λ (M : Meaning → Type 0). SizeOfValues M ⊥ c.string_len.result) (sym (by_octets c.args.tag c.args.string.now c.args.mode c.in-Cer.is))
+    (c.string_len.ensures _ octets c.len.ensures)

@@ -17,6 +17,7 @@ pub loop-parts-preserved : goal.loop-parts-preserved
 loop-parts-preserved g c =
     let filled = c.fill-part.ensures in
     record {
-      written = together_passed g.H.Hasher.write _ _ _ _ _ _ _ (c.write-else-part-ge-BLOCK.ensures ∙ ap (g.H.Hasher.write _) c.as_slice.ensures) filled.joined filled.some filled.within filled.full filled.all c.loop-parts.invariant.written;
+      written = together_passed g.H.Hasher.write _ _ _ _ _ _ _ (c.write-else-part-ge-BLOCK.ensures ∙ ap (g.H.Hasher.write _) c.as_slice.ensures) filled.joined
+          filled.some filled.within filled.full filled.all c.loop-parts.invariant.written;
       all = filled.all;
     }

@@ -10,4 +10,5 @@ loop-octets-preserved g c =
 
 pub returns-then-not-is_empty : goal.returns-then-not-is_empty
 returns-then-not-is_empty g c =
-    last_written g.H.Hasher.write _ _ _ _ _ c.write-then-not-is_empty.ensures (grind (arith, common_steps, c.if-not-is_empty.ensures)) (omega (arith, c.loop-octets-test.false)) refl c.loop-octets.invariant
+    last_written g.H.Hasher.write _ _ _ _ _ c.write-then-not-is_empty.ensures (grind (arith, common_steps, c.if-not-is_empty.ensures))
+    (omega (arith, c.loop-octets-test.false)) refl c.loop-octets.invariant

@@ -10,7 +10,8 @@ pub returns-then-eq-clause-read : goal.returns-then-eq-clause-read
 returns-then-eq-clause-read g c = record {
   at_tag = λ tag.
       let i = of_constructed g.S.Source.stream c.args.values.now in
-      refuse_constructed tag i c.refusal.result (sym c.mode-mode.ensures ∙ (search rules)) (constructed_form g.S.Source.stream c.args.values.now) c.refusal.ensures;
+      refuse_constructed tag i c.refusal.result (sym c.mode-mode.ensures ∙ (search rules))
+      (constructed_form g.S.Source.stream c.args.values.now) c.refusal.ensures;
 }
 
 pub returns-in-Err-clause-read : goal.returns-in-Err-clause-read
@@ -18,7 +19,8 @@ returns-in-Err-clause-read g c = record {
   at_tag = λ tag.
       let i = of_constructed g.S.Source.stream c.args.values.now in
       let j = of_constructed g.S.Source.stream c.capture_all.new.self in
-      refuse_values tag i j c.in-Err.error c.in-Err.ensures.captured (constructed_form g.S.Source.stream c.args.values.now) (λ m. (let x : false ≡ true = rw (c.mode-mode.ensures ∙ m) at c.if-eq.ensures in cc));
+      refuse_values tag i j c.in-Err.error c.in-Err.ensures.captured (constructed_form g.S.Source.stream c.args.values.now)
+      (λ m. (let x : false ≡ true = rw (c.mode-mode.ensures ∙ m) at c.if-eq.ensures in cc));
 }
 
 pub returns-in-Ok-Some-clause-read : goal.returns-in-Ok-Some-clause-read
@@ -40,7 +42,8 @@ returns-in-Ok-None-clause-read g c = record {
       let n : AreCut i.mode c.in-Ok.captured.octets → ⊥ =
       subst (λ w. AreCut i.mode w → ⊥) c.as_slice.ensures.value
       (subst (λ m. AreCut m c.as_slice.result.now → ⊥) c.mode-mode.ensures (rw c.in-Ok-None.field-0-is at c.in-Ok-None.ensures.found)) in
-      refuse_segments tag i j c.in-Ok.captured c.refusal-in-Ok-None.result c.in-Ok.ensures.captured (constructed_form g.S.Source.stream c.args.values.now) n c.refusal-in-Ok-None.ensures;
+      refuse_segments tag i j c.in-Ok.captured c.refusal-in-Ok-None.result c.in-Ok.ensures.captured
+      (constructed_form g.S.Source.stream c.args.values.now) n c.refusal-in-Ok-None.ensures;
 }
 
 pub returns-in-Err-table_of-clause-read : goal.returns-in-Err-table_of-clause-read

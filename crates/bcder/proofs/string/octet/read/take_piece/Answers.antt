@@ -8,7 +8,8 @@ pub returns-then-not-may_be_whole-clause-read : goal.returns-then-not-may_be_who
 returns-then-not-may_be_whole-clause-read g c = record {
   at_tag = λ tag.
       let i = of_primitive g.S.Source.stream c.args.octets.now in
-      refuse_long tag i c.refusal.result c.refusal.ensures (octets_form g.S.Source.stream c.args.octets.now) (λ h. (let f : IsTrue false = c.if-not-may_be_whole.ensures.1 (λ m. subst (λ z. z ≤ 1000) (sym c.remaining.ensures) (h (sym c.mode.ensures ∙ m))) in cc));
+      refuse_long tag i c.refusal.result c.refusal.ensures (octets_form g.S.Source.stream c.args.octets.now) (λ h.
+      (let f : IsTrue false = c.if-not-may_be_whole.ensures.1 (λ m. subst (λ z. z ≤ 1000) (sym c.remaining.ensures) (h (sym c.mode.ensures ∙ m))) in cc));
 }
 
 pub returns-clause-read : goal.returns-clause-read
@@ -16,5 +17,6 @@ returns-clause-read g c = record {
   at_tag = λ tag.
       let i = of_primitive g.S.Source.stream c.args.octets.now in
       let j = of_primitive g.S.Source.stream c.take_all.new.self in
-      read_piece tag i j c.take_all.result c.take_all.ensures.read (octets_form g.S.Source.stream c.args.octets.now) (octets_form g.S.Source.stream c.take_all.new.self) (λ m. subst (λ z. z ≤ 1000) c.remaining.ensures (c.if-not-may_be_whole.ensures.0 refl (c.mode.ensures ∙ m)));
+      read_piece tag i j c.take_all.result c.take_all.ensures.read (octets_form g.S.Source.stream c.args.octets.now) (octets_form g.S.Source.stream
+      c.take_all.new.self) (λ m. subst (λ z. z ≤ 1000) c.remaining.ensures (c.if-not-may_be_whole.ensures.0 refl (c.mode.ensures ∙ m)));
 }

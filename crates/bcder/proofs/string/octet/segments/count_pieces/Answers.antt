@@ -1,7 +1,8 @@
 use Rattle.std.proofs.Common.{◌≡◌, ◌≤◌, true, length, arith, rules}
 use Rattle.bcder.specs.x690.OctetString.{IsLast}
 use Rattle.bcder.proofs.Segments.{pieces_shorter, pieces_more, pieces_other, pieces_nested, pieces_unread, pieces_cut, pieces_few}
-use Rattle.bcder.proofs.string.octet.segments.count_pieces.Goals.{then-not-full-via-then-not-full, then-not-full-via-else-not-full+then-len-eq0, then-not-full-via-else-not-full+else-len-eq0+then-len-gt-FULL}
+use Rattle.bcder.proofs.string.octet.segments.count_pieces.Goals.{then-not-full-via-then-not-full, then-not-full-via-else-not-full+then-len-eq0}
+use Rattle.bcder.proofs.string.octet.segments.count_pieces.Goals.{then-not-full-via-else-not-full+else-len-eq0+then-len-gt-FULL}
 use Rattle.bcder.proofs.string.octet.segments.count_pieces.Goals as goal
 
 pub returns-then-not-full-clause-none : goal.returns-then-not-full-clause-none

@@ -21,7 +21,8 @@ returns-then-len-gt64-clause-written g c = λ e meant.
 pub returns-in_err-write_known-clause-written : goal.returns-in_err-write_known-clause-written
 returns-in_err-write_known-clause-written g c = λ e meant.
     let one = (g.met.V.Values.lawful c.args.values.now c.args.inner c.requires.can).one in
-    halts _ c.from_residual-in_err-write_known.ensures (elsewhere _ _ (definite_some octet_string_tag false e.octets) (c.in_err-write_known.ensures.written one e meant))
+    halts _ c.from_residual-in_err-write_known.ensures
+    (elsewhere _ _ (definite_some octet_string_tag false e.octets) (c.in_err-write_known.ensures.written one e meant))
 
 pub returns-clause-written : goal.returns-clause-written
 returns-clause-written g c = λ e meant.

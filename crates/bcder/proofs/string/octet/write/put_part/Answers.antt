@@ -12,7 +12,8 @@ pub returns-in_err-put_all : goal.returns-in_err-put_all
 returns-in_err-put_all g c = part_halts c.args.progress c.args.part.now _ c.from_residual-in_err-put_all.ensures (λ v at.
     let x = c.loop-rest.invariant.so_far v at in
     let y = advanced_on x (c.in_ok-begun.ensures.2 _ x.progress) in
-    advanced_failed y (front_failed c.in_ok-begun.begun _ c.loop-rest.rest.now v (omega (arith, c.min-count.ensures)) (omega (arith, c.min-count.ensures)) c.in_err-put_all.ensures))
+    advanced_failed y (front_failed c.in_ok-begun.begun _ c.loop-rest.rest.now v (omega (arith, c.min-count.ensures))
+    (omega (arith, c.min-count.ensures)) c.in_err-put_all.ensures))
 
 pub loop-rest-preserved : goal.loop-rest-preserved
 loop-rest-preserved g c =
@@ -24,6 +25,7 @@ loop-rest-preserved g c =
       so_far = λ v at.
           let x = c.loop-rest.invariant.so_far v at in
           let y = advanced_on x (c.in_ok-begun.ensures.2 _ x.progress) in
-          let z = advanced_on y (front_written c.in_ok-begun.begun k rest v (omega (arith, c.min-count.ensures)) (omega (arith, c.min-count.ensures)) y.progress c.in_ok-put_all.ensures.done) in
+          let z = advanced_on y (front_written c.in_ok-begun.begun k rest v (omega (arith, c.min-count.ensures))
+          (omega (arith, c.min-count.ensures)) y.progress c.in_ok-put_all.ensures.done) in
           advanced_to (ap (λ l. l ++ v) (sym left)) z;
     }

@@ -8,8 +8,11 @@ use Rattle.bcder.proofs.string.octet.write.put_parts.Goals as goal
 pub loop-part-preserved : goal.loop-part-preserved
 loop-part-preserved g c =
     let (done, split, before) = c.loop-part.invariant in
-    let part = c.in-Some.part.now in
-    (done ++ part, split ∙ ap (λ l. done ++ concat l) c.in-Some.ensures.steps ∙ sym (append_assoc done part (concat c.next.new.self)), Appends-trans _ _ _ _ _ before c.in_ok-put_all.ensures.done)
+    let part = c.in-Some.part.now in (
+      done ++ part,
+      split ∙ ap (λ l. done ++ concat l) c.in-Some.ensures.steps ∙ sym (append_assoc done part (concat c.next.new.self)),
+      Appends-trans _ _ _ _ _ before c.in_ok-put_all.ensures.done,
+    )
 
 pub returns-in_err-put_all : goal.returns-in_err-put_all
 returns-in_err-put_all g c =

@@ -12,4 +12,5 @@ pub returns-in_err-progress : goal.returns-in_err-progress
 returns-in_err-progress g c =
     let same : c.into_iter-part-iterator.result ≡ c.args.parts = cc in
     let failed = part_failed c.in-Some.part.now _ (ap concat c.in-Some.ensures.steps) c.loop-part.invariant c.in_err-progress.ensures in
-    halts _ c.from_residual.ensures (same_octets (none_begun c.args.len _ (omega (arith, ap (λ p. length (concat p)) same)) ∙ ap (λ p. (segments_in_cer (concat p)).octets) same) failed)
+    halts _ c.from_residual.ensures
+    (same_octets (none_begun c.args.len _ (omega (arith, ap (λ p. length (concat p)) same)) ∙ ap (λ p. (segments_in_cer (concat p)).octets) same) failed)

@@ -19,7 +19,10 @@ returns-in-Ok-clause-read g c =
     let j = of_primitive g.S.Source.stream c.take_accepted.new.octets in
     let step = g.L.CharSet.step in
     subst (λ z. ReadsAny (MeansRestricted step) (of_content g.S.Source.stream z) (Ok c.of_bytes.result) j) (sym c.in-Primitive.is)
-    (record { at_tag = λ tag. piece_read (MeansRestricted step) (accepted_in_one step) tag i j c.in-Ok.octets c.of_bytes.result c.of_bytes.ensures (c.in-Ok.ensures.read.at_tag tag) })
+    (record {
+      at_tag = λ tag. piece_read (MeansRestricted step) (accepted_in_one step) tag i j c.in-Ok.octets c.of_bytes.result c.of_bytes.ensures
+          (c.in-Ok.ensures.read.at_tag tag);
+    })
 
 pub returns-in-Err-clause-read : goal.returns-in-Err-clause-read
 returns-in-Err-clause-read g c =
@@ -27,9 +30,13 @@ returns-in-Err-clause-read g c =
     let j = of_primitive g.S.Source.stream c.take_accepted.new.octets in
     let step = g.L.CharSet.step in
     subst (λ z. ReadsAny {T = StringOctets} (MeansRestricted step) (of_content g.S.Source.stream z) (Err c.in-Err.error) j) (sym c.in-Primitive.is)
-    (record { at_tag = λ tag. piece_refused (MeansRestricted step) (accepted_in_one step) tag i j (octets_form g.S.Source.stream c.in-Primitive.octets) c.in-Err.error (c.in-Err.ensures.read.at_tag tag) })
+    (record {
+      at_tag = λ tag. piece_refused (MeansRestricted step) (accepted_in_one step) tag i j
+          (octets_form g.S.Source.stream c.in-Primitive.octets) c.in-Err.error (c.in-Err.ensures.read.at_tag tag);
+    })
 
 pub returns-in-Constructed-clause-read : goal.returns-in-Constructed-clause-read
 returns-in-Constructed-clause-read g c =
     let j = of_constructed g.S.Source.stream c.from_values.new.values in
-    subst (λ z. ReadsAny (MeansRestricted g.L.CharSet.step) (of_content g.S.Source.stream z) c.from_values.result j) (sym c.in-Constructed.is) c.from_values.ensures.read
+    subst (λ z. ReadsAny (MeansRestricted g.L.CharSet.step) (of_content g.S.Source.stream z) c.from_values.result j)
+    (sym c.in-Constructed.is) c.from_values.ensures.read

@@ -14,4 +14,5 @@ pub returns-clause-read : goal.returns-clause-read
 returns-clause-read g c =
     let i = of_constructed g.S.Source.stream c.args.values.now in
     let j = of_constructed g.S.Source.stream c.from_constructed.new.values in
-    read_checked (λ (s : StringOctets). s) g.L.CharSet.step i j c.in-Ok.octets c.accept.result c.accept.ensures.accepted c.accept.ensures.refused c.in-Ok.ensures.read
+    read_checked (λ (s : StringOctets). s) g.L.CharSet.step i j c.in-Ok.octets c.accept.result c.accept.ensures.accepted
+    c.accept.ensures.refused c.in-Ok.ensures.read

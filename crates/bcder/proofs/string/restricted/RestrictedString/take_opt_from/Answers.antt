@@ -31,35 +31,45 @@ take_primitive_body-requires-clause-fits g c =
 pub returns-then-is_constructed-clause-moves : goal.returns-then-is_constructed-clause-moves
 returns-then-is_constructed-clause-moves g c =
     let e = rw c.in-Ok-Some.field-0-is at c.in-Ok-Some.ensures.entered in
-    moved_carries _ _ (moves_next (of_constructed g.S.Source.stream) _ (Some false) (tagged c.TAG.result) (of_constructed g.S.Source.stream c.args.cons.now) _ _ (header_of c.in-Ok-Some.header) e.0 e.1 _ c.take_constructed_body.ensures)
+    moved_carries _ _ (moves_next (of_constructed g.S.Source.stream) _ (Some false) (tagged c.TAG.result) (of_constructed g.S.Source.stream c.args.cons.now) _ _
+    (header_of c.in-Ok-Some.header) e.0 e.1 _ c.take_constructed_body.ensures)
 
 pub returns-then-is_constructed-clause-took : goal.returns-then-is_constructed-clause-took
 returns-then-is_constructed-clause-took g c =
     let e = rw c.in-Ok-Some.field-0-is at c.in-Ok-Some.ensures.entered in
-    let b = of_either_form (of_constructed g.S.Source.stream) _ (Some false) _ (header_of c.in-Ok-Some.header) _ _ (λ f. (let x : ◌≡◌ {A = Option Bool} (Some false) (Some true) = f ∙ ap Some (sym c.is_constructed.ensures ∙ c.if-is_constructed.true) in cc)) c.take_constructed_body.ensures in
+    let b = of_either_form (of_constructed g.S.Source.stream) _ (Some false) _ (header_of c.in-Ok-Some.header) _ _
+    (λ f. (let x : ◌≡◌ {A = Option Bool} (Some false) (Some true) = f ∙ ap Some (sym c.is_constructed.ensures ∙ c.if-is_constructed.true) in cc))
+    c.take_constructed_body.ensures in
     rw (← c.TAG.ensures) (next_tree (of_constructed g.S.Source.stream) _ c.TAG.result (MeansRestricted g.L.CharSet.step) (λ t p r q x. search rules)
     (of_constructed g.S.Source.stream c.args.cons.now) (of_constructed g.S.Source.stream c.take_constructed_body.new.self) c.take_constructed_body.result
     (within_constructed g.S.Source.stream g.met.S.Source.sound c.args.cons.now)
-    (takes_next (of_constructed g.S.Source.stream) _ None (tagged c.TAG.result) (of_constructed g.S.Source.stream c.args.cons.now) _ _ (header_of c.in-Ok-Some.header) e.0 e.1 _ b))
+    (takes_next (of_constructed g.S.Source.stream) _ None (tagged c.TAG.result) (of_constructed g.S.Source.stream c.args.cons.now) _ _
+    (header_of c.in-Ok-Some.header) e.0 e.1 _ b))
 
 pub returns-in-Ok-Some-take_primitive_body-clause-moves : goal.returns-in-Ok-Some-take_primitive_body-clause-moves
 returns-in-Ok-Some-take_primitive_body-clause-moves g c =
     let e = rw c.in-Ok-Some.field-0-is at c.in-Ok-Some.ensures.entered in
-    moved_carries _ _ (moves_next (of_primitive g.S.Source.stream) _ (Some true) (tagged c.TAG.result) (of_constructed g.S.Source.stream c.args.cons.now) _ _ (header_of c.in-Ok-Some.header) e.0 e.1 _ c.take_primitive_body.ensures)
+    moved_carries _ _ (moves_next (of_primitive g.S.Source.stream) _ (Some true) (tagged c.TAG.result) (of_constructed g.S.Source.stream c.args.cons.now) _ _
+    (header_of c.in-Ok-Some.header) e.0 e.1 _ c.take_primitive_body.ensures)
 
 pub returns-in-Err-take_primitive_body-clause-moves : goal.returns-in-Err-take_primitive_body-clause-moves
 returns-in-Err-take_primitive_body-clause-moves g c =
     let e = rw c.in-Ok-Some.field-0-is at c.in-Ok-Some.ensures.entered in
-    moved_carries _ _ (moves_next (of_primitive g.S.Source.stream) _ (Some true) (tagged c.TAG.result) (of_constructed g.S.Source.stream c.args.cons.now) _ _ (header_of c.in-Ok-Some.header) e.0 e.1 _ c.take_primitive_body.ensures)
+    moved_carries _ _ (moves_next (of_primitive g.S.Source.stream) _ (Some true) (tagged c.TAG.result) (of_constructed g.S.Source.stream c.args.cons.now) _ _
+    (header_of c.in-Ok-Some.header) e.0 e.1 _ c.take_primitive_body.ensures)
 
 pub returns-in-Ok-Some-take_primitive_body-clause-took : goal.returns-in-Ok-Some-take_primitive_body-clause-took
 returns-in-Ok-Some-take_primitive_body-clause-took g c =
     let e = rw c.in-Ok-Some.field-0-is at c.in-Ok-Some.ensures.entered in
     let i = of_constructed g.S.Source.stream c.args.cons.now in
     let j = of_constructed g.S.Source.stream c.take_primitive_body.new.self in
-    let b = of_either_form (of_primitive g.S.Source.stream) _ (Some true) _ (header_of c.in-Ok-Some.header) _ _ (λ f. (let x : ◌≡◌ {A = Option Bool} (Some true) (Some false) = f ∙ ap Some (sym c.is_constructed.ensures ∙ c.if-is_constructed.false) in cc)) (rw c.in-Ok-Some-take_primitive_body.field-0-is at c.in-Ok-Some-take_primitive_body.ensures) in
-    rw (← c.TAG.ensures) (piece_taken (MeansRestricted g.L.CharSet.step) (accepted_in_one g.L.CharSet.step) c.TAG.result i j c.in-Ok-Some-take_primitive_body.octets c.of_bytes.result c.of_bytes.ensures
-    (next_tree (of_primitive g.S.Source.stream) _ c.TAG.result (MeansPiece g.L.CharSet.step) (λ t p r q x. search rules) i j _ (within_constructed g.S.Source.stream g.met.S.Source.sound c.args.cons.now)
+    let b = of_either_form (of_primitive g.S.Source.stream) _ (Some true) _ (header_of c.in-Ok-Some.header) _ _
+    (λ f. (let x : ◌≡◌ {A = Option Bool} (Some true) (Some false) = f ∙ ap Some (sym c.is_constructed.ensures ∙ c.if-is_constructed.false) in cc))
+    (rw c.in-Ok-Some-take_primitive_body.field-0-is at c.in-Ok-Some-take_primitive_body.ensures) in
+    rw (← c.TAG.ensures) (piece_taken (MeansRestricted g.L.CharSet.step)
+    (accepted_in_one g.L.CharSet.step) c.TAG.result i j c.in-Ok-Some-take_primitive_body.octets c.of_bytes.result c.of_bytes.ensures
+    (next_tree (of_primitive g.S.Source.stream) _ c.TAG.result (MeansPiece g.L.CharSet.step) (λ t p r q x. search rules) i j _
+    (within_constructed g.S.Source.stream g.met.S.Source.sound c.args.cons.now)
     (takes_next (of_primitive g.S.Source.stream) _ None (tagged c.TAG.result) i _ j (header_of c.in-Ok-Some.header) e.0 e.1 _ b)))
 
 pub returns-in-Err-take_primitive_body-clause-took : goal.returns-in-Err-take_primitive_body-clause-took
@@ -67,9 +77,14 @@ returns-in-Err-take_primitive_body-clause-took g c =
     let e = rw c.in-Ok-Some.field-0-is at c.in-Ok-Some.ensures.entered in
     let i = of_constructed g.S.Source.stream c.args.cons.now in
     let j = of_constructed g.S.Source.stream c.take_primitive_body.new.self in
-    let b = of_either_form (of_primitive g.S.Source.stream) _ (Some true) _ (header_of c.in-Ok-Some.header) _ _ (λ f. (let x : ◌≡◌ {A = Option Bool} (Some true) (Some false) = f ∙ ap Some (sym c.is_constructed.ensures ∙ c.if-is_constructed.false) in cc)) c.in-Err-take_primitive_body.ensures in
-    rw (← c.TAG.ensures) (piece_not_taken (MeansRestricted g.L.CharSet.step) (accepted_in_one g.L.CharSet.step) c.TAG.result i j _ (header_entered i (header_of c.in-Ok-Some.header) (of_constructed g.S.Source.stream c.next_header.new.self) (tagged c.TAG.result) e.0 e.1) (sym c.is_constructed.ensures ∙ c.if-is_constructed.false) c.in-Err-take_primitive_body.error
-    (next_tree (of_primitive g.S.Source.stream) _ c.TAG.result (MeansPiece g.L.CharSet.step) (λ t p r q x. search rules) i j _ (within_constructed g.S.Source.stream g.met.S.Source.sound c.args.cons.now)
+    let b = of_either_form (of_primitive g.S.Source.stream) _ (Some true) _ (header_of c.in-Ok-Some.header) _ _
+    (λ f. (let x : ◌≡◌ {A = Option Bool} (Some true) (Some false) = f ∙ ap Some (sym c.is_constructed.ensures ∙ c.if-is_constructed.false) in cc))
+    c.in-Err-take_primitive_body.ensures in
+    rw (← c.TAG.ensures) (piece_not_taken (MeansRestricted g.L.CharSet.step) (accepted_in_one g.L.CharSet.step) c.TAG.result i j _
+    (header_entered i (header_of c.in-Ok-Some.header) (of_constructed g.S.Source.stream c.next_header.new.self) (tagged c.TAG.result) e.0 e.1)
+    (sym c.is_constructed.ensures ∙ c.if-is_constructed.false) c.in-Err-take_primitive_body.error
+    (next_tree (of_primitive g.S.Source.stream) _ c.TAG.result (MeansPiece g.L.CharSet.step) (λ t p r q x. search rules) i j _
+    (within_constructed g.S.Source.stream g.met.S.Source.sound c.args.cons.now)
     (takes_next (of_primitive g.S.Source.stream) _ None (tagged c.TAG.result) i _ j (header_of c.in-Ok-Some.header) e.0 e.1 _ b)))
 
 pub returns-in-Ok-None-clause-moves : goal.returns-in-Ok-None-clause-moves
@@ -77,7 +92,8 @@ returns-in-Ok-None-clause-moves g c = moved_carries _ _ c.next_header.ensures.mo
 
 pub returns-in-Ok-None-clause-took : goal.returns-in-Ok-None-clause-took
 unfolding of_constructed
-returns-in-Ok-None-clause-took g c = rw (← c.TAG.ensures) (no_tree c.TAG.result _ _ _ c.next_header.ensures.mode (rw c.in-Ok-None.field-0-is at c.in-Ok-None.ensures.none))
+returns-in-Ok-None-clause-took g c =
+    rw (← c.TAG.ensures) (no_tree c.TAG.result _ _ _ c.next_header.ensures.mode (rw c.in-Ok-None.field-0-is at c.in-Ok-None.ensures.none))
 
 pub returns-in-Err-clause-moves : goal.returns-in-Err-clause-moves
 returns-in-Err-clause-moves g c = moved_carries _ _ c.next_header.ensures.moves
@@ -85,16 +101,21 @@ returns-in-Err-clause-moves g c = moved_carries _ _ c.next_header.ensures.moves
 pub returns-in-Err-clause-took : goal.returns-in-Err-clause-took
 unfolding of_constructed
 returns-in-Err-clause-took g c =
-    rw (← c.TAG.ensures) (stopped_tree c.TAG.result _ (of_constructed g.S.Source.stream c.args.cons.now) (of_constructed g.S.Source.stream c.next_header.new.self)
+    rw (← c.TAG.ensures)
+    (stopped_tree c.TAG.result _ (of_constructed g.S.Source.stream c.args.cons.now) (of_constructed g.S.Source.stream c.next_header.new.self)
     (within_constructed g.S.Source.stream g.met.S.Source.sound c.args.cons.now) c.next_header.ensures.mode _
-    (header_stopped stop_cause cause_of _ _ c.stop_error.ensures _ _ (tagged c.TAG.result) c.in-Err.ensures.refused) c.next_header.ensures.marked c.in-Err.ensures.failed)
+    (header_stopped stop_cause cause_of _ _ c.stop_error.ensures _ _ (tagged c.TAG.result) c.in-Err.ensures.refused) c.next_header.ensures.marked
+    c.in-Err.ensures.failed)
 
 pub of_bytes-requires : goal.of_bytes-requires
 of_bytes-requires g c =
     let e = rw c.in-Ok-Some.field-0-is at c.in-Ok-Some.ensures.entered in
     let i = of_constructed g.S.Source.stream c.args.cons.now in
     let j = of_constructed g.S.Source.stream c.take_primitive_body.new.self in
-    let b = of_either_form (of_primitive g.S.Source.stream) _ (Some true) _ (header_of c.in-Ok-Some.header) _ _ (λ f. (let x : ◌≡◌ {A = Option Bool} (Some true) (Some false) = f ∙ ap Some (sym c.is_constructed.ensures ∙ c.if-is_constructed.false) in cc)) (rw c.in-Ok-Some-take_primitive_body.field-0-is at c.in-Ok-Some-take_primitive_body.ensures) in
-    let k = next_tree (of_primitive g.S.Source.stream) _ c.TAG.result (MeansPiece g.L.CharSet.step) (λ t p r q x. search rules) i j _ (within_constructed g.S.Source.stream g.met.S.Source.sound c.args.cons.now)
+    let b = of_either_form (of_primitive g.S.Source.stream) _ (Some true) _ (header_of c.in-Ok-Some.header) _ _
+    (λ f. (let x : ◌≡◌ {A = Option Bool} (Some true) (Some false) = f ∙ ap Some (sym c.is_constructed.ensures ∙ c.if-is_constructed.false) in cc))
+    (rw c.in-Ok-Some-take_primitive_body.field-0-is at c.in-Ok-Some-take_primitive_body.ensures) in
+    let k = next_tree (of_primitive g.S.Source.stream) _ c.TAG.result (MeansPiece g.L.CharSet.step) (λ t p r q x. search rules) i j _
+    (within_constructed g.S.Source.stream g.met.S.Source.sound c.args.cons.now)
     (takes_next (of_primitive g.S.Source.stream) _ None (tagged c.TAG.result) i _ j (header_of c.in-Ok-Some.header) e.0 e.1 _ b) in
     k.value.means.1

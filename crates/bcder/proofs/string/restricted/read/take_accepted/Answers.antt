@@ -8,7 +8,8 @@ pub returns-then-not-may_be_whole-clause-read : goal.returns-then-not-may_be_who
 returns-then-not-may_be_whole-clause-read g c = record {
   at_tag = λ tag.
       let i = of_primitive g.S.Source.stream c.args.octets.now in
-      refuse_long_piece g.L.CharSet.step tag i i (octets_form g.S.Source.stream c.args.octets.now) c.refusal.result c.refusal.ensures (λ h. (let f : IsTrue false = c.if-not-may_be_whole.ensures.1 (λ m. subst (λ z. z ≤ 1000) (sym c.remaining.ensures) (h (sym c.mode.ensures ∙ m))) in cc));
+      refuse_long_piece g.L.CharSet.step tag i i (octets_form g.S.Source.stream c.args.octets.now) c.refusal.result c.refusal.ensures (λ h.
+      (let f : IsTrue false = c.if-not-may_be_whole.ensures.1 (λ m. subst (λ z. z ≤ 1000) (sym c.remaining.ensures) (h (sym c.mode.ensures ∙ m))) in cc));
 }
 
 pub returns-clause-read : goal.returns-clause-read
@@ -16,5 +17,7 @@ returns-clause-read g c = record {
   at_tag = λ tag.
       let i = of_primitive g.S.Source.stream c.args.octets.now in
       let j = of_primitive g.S.Source.stream c.take_characters.new.self in
-      read_characters g.L.CharSet.step tag i j (octets_form g.S.Source.stream c.args.octets.now) c.take_characters.result c.take_characters.ensures.read (octets_form g.S.Source.stream c.take_characters.new.self) (λ m. subst (λ z. z ≤ 1000) c.remaining.ensures (c.if-not-may_be_whole.ensures.0 refl (c.mode.ensures ∙ m)));
+      read_characters g.L.CharSet.step tag i j (octets_form g.S.Source.stream c.args.octets.now) c.take_characters.result c.take_characters.ensures.read
+      (octets_form g.S.Source.stream c.take_characters.new.self)
+      (λ m. subst (λ z. z ≤ 1000) c.remaining.ensures (c.if-not-may_be_whole.ensures.0 refl (c.mode.ensures ∙ m)));
 }

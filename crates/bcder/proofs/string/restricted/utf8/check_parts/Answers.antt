@@ -28,7 +28,15 @@ loop-rest-smaller c =
     let part = c.loop-rest.part.now in
     let more = concat c.loop-rest.parts in
     let len = c.utf8_len-len.result in
-    omega (arith, shorter, ap length c.into_parts.ensures, ap length (c.from_parts-rest.ensures ∙ ap (λ (w : List ℕ). w ++ more) c.split_at.ensures.back), length-append (drop len part) more, length-append part more, length-drop len part)
+    omega (
+      arith,
+      shorter,
+      ap length c.into_parts.ensures,
+      ap length (c.from_parts-rest.ensures ∙ ap (λ (w : List ℕ). w ++ more) c.split_at.ensures.back),
+      length-append (drop len part) more,
+      length-append part more,
+      length-drop len part,
+    )
 
 pub loop-rest-preserved : goal.loop-rest-preserved
 loop-rest-preserved c =

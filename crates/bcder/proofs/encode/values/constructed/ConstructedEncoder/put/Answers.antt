@@ -32,7 +32,8 @@ pub returns-in-Some-clause-left : goal.returns-in-Some-clause-left
 returns-in-Some-clause-left g c =
     let mode = c.args.mode in
     let x = c.args.self.now.inner in
-    where_ok c.put_enclosed.result (contents_read (g.V.Values.means x mode) (g.V.Values.reads x mode) mode _ _ _ _ c.in-Some.ensures) c.put_enclosed.ensures.left
+    where_ok c.put_enclosed.result
+    (contents_read (g.V.Values.means x mode) (g.V.Values.reads x mode) mode _ _ _ _ c.in-Some.ensures) c.put_enclosed.ensures.left
 
 pub returns-in-None-clause-left : goal.returns-in-None-clause-left
 returns-in-None-clause-left g c =

@@ -8,14 +8,16 @@ pub loop-item-init : goal.loop-item-init
 loop-item-init g c = seen_none _
 
 pub loop-item-preserved : goal.loop-item-preserved
-loop-item-preserved g c = seen_next (λ v. g.T.Item.Values.means v c.args.mode) c.in-Some.item c.in_ok-len.len c.loop-item.invariant c.in_ok-len.ensures c.add_len-sum.ensures
+loop-item-preserved g c =
+    seen_next (λ v. g.T.Item.Values.means v c.args.mode) c.in-Some.item c.in_ok-len.len c.loop-item.invariant c.in_ok-len.ensures c.add_len-sum.ensures
 
 pub encoded_len-requires : goal.encoded_len-requires
 encoded_len-requires g c =
     let (copy, cloned, made) = c.in-Ok.ensures.items in
     let step = subst (λ r. g.T.IntoIter.Iterator.next_gives c.loop-item.item-iterator r c.next.new.self) c.in-Some.is c.next.ensures.steps in
     let given = subst (g.T.IntoIterator.into_iter_gives copy) (sym c.into_iter-item-iterator.ensures.into_iter_gives) made in
-    item_can g.T.IntoIter.Iterator.next_gives g.T.Item.Values.can_encode g.T.Item.Values.means _ c.loop-item.item-iterator c.next.new.self c.loop-item.yielded c.requires.items c.in-Some.item
+    item_can g.T.IntoIter.Iterator.next_gives g.T.Item.Values.can_encode g.T.Item.Values.means _ c.loop-item.item-iterator c.next.new.self c.loop-item.yielded
+    c.requires.items c.in-Some.item
     (c.requires.same copy _ cloned given) c.loop-item.yielded_by step
 
 pub returns-in-Err-clause-sized : goal.returns-in-Err-clause-sized
@@ -28,7 +30,8 @@ returns-in_err-len-clause-sized g c =
     let s = c.loop-item.invariant in
     let step = subst (λ r. g.T.IntoIter.Iterator.next_gives c.loop-item.item-iterator r c.next.new.self) c.in-Some.is c.next.ensures.steps in
     let r = c.in_err-len.ensures in
-    sum_refused {M = RunsMean g.T.Clone.is_clone g.T.IntoIterator.into_iter_gives g.T.IntoIter.Iterator.next_gives M c.args.self.now.value} _ _ c.from_residual.ensures (record {
+    sum_refused {M = RunsMean g.T.Clone.is_clone g.T.IntoIterator.into_iter_gives g.T.IntoIter.Iterator.next_gives M c.args.self.now.value} _ _
+    c.from_residual.ensures (record {
       meant = λ ne. (
         c.loop-item.yielded ++ c.in-Some.item ∷ [],
         record {
@@ -67,7 +70,15 @@ returns-clause-sized g c =
     sum_told (RunsMean g.T.Clone.is_clone g.T.IntoIterator.into_iter_gives g.T.IntoIter.Iterator.next_gives M c.args.self.now.value) c.loop-item.sum s.seen (
       c.loop-item.yielded,
       record {
-        begins = record { copy = copy; cloned = cloned; from = c.into_iter-item-iterator.result; made = subst (g.T.IntoIterator.into_iter_gives copy) (sym c.into_iter-item-iterator.ensures.into_iter_gives) made; to = c.loop-item.item-iterator; ran = c.loop-item.yielded_by };
+        begins = record {
+          copy = copy;
+          cloned = cloned;
+          from = c.into_iter-item-iterator.result;
+          made = subst (g.T.IntoIterator.into_iter_gives copy)
+              (sym c.into_iter-item-iterator.ensures.into_iter_gives) made;
+          to = c.loop-item.item-iterator;
+          ran = c.loop-item.yielded_by;
+        };
         left = c.next.new.self;
         ends = step;
       },

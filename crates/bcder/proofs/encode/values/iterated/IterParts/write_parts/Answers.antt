@@ -27,9 +27,14 @@ write_known-requires g c =
     let run = c.loop-item.invariant in
     let step = subst (λ r. g.T.IntoIter.Iterator.next_gives c.loop-item.item-iterator r c.next.new.self) c.in-Some.is c.next.ensures.steps in
     let next = next_of g.T.IntoIter.Iterator.next_gives g.T.Item.Values.can_encode g.T.Item.Values.means _ _ run.rest x run.gives step in
-    let so_far = subst (λ l. WrittenSoFar Means (EachOf M l) (g.W.Write.contents c.args.target.now) (g.W.Write.contents c.loop-item.target)) next.is run.so_far in
+    let so_far =
+    subst (λ l. WrittenSoFar Means (EachOf M l) (g.W.Write.contents c.args.target.now) (g.W.Write.contents c.loop-item.target)) next.is run.so_far in
     let known = next_known (M next.first) (EachOf M next.others) so_far c.requires.known in
-    record { can = next.may; sized = nothing_left _ _ c.none.ensures; known = (known.0, to_second g.T.Item.Values.means next.first x next.same c.args.mode (Ok known.0) known.1) }
+    record {
+      can = next.may;
+      sized = nothing_left _ _ c.none.ensures;
+      known = (known.0, to_second g.T.Item.Values.means next.first x next.same c.args.mode (Ok known.0) known.1);
+    }
 
 pub loop-item-preserved : goal.loop-item-preserved
 loop-item-preserved g c =
@@ -39,11 +44,17 @@ loop-item-preserved g c =
     let run = c.loop-item.invariant in
     let step = subst (λ r. g.T.IntoIter.Iterator.next_gives c.loop-item.item-iterator r c.next.new.self) c.in-Some.is c.next.ensures.steps in
     let next = next_of g.T.IntoIter.Iterator.next_gives g.T.Item.Values.can_encode g.T.Item.Values.means _ _ run.rest x run.gives step in
-    let so_far = subst (λ l. WrittenSoFar Means (EachOf M l) (g.W.Write.contents c.args.target.now) (g.W.Write.contents c.loop-item.target)) next.is run.so_far in
+    let so_far =
+    subst (λ l. WrittenSoFar Means (EachOf M l) (g.W.Write.contents c.args.target.now) (g.W.Write.contents c.loop-item.target)) next.is run.so_far in
     let one = (g.met.T.Item.Values.lawful x c.args.mode next.may).one in
-    let wrote = λ (e : Encoded) (m : M next.first (Ok e)). c.write_known.ensures.written one e (to_second g.T.Item.Values.means next.first x next.same c.args.mode (Ok e) m) in
+    let wrote = λ (e : Encoded) (m : M next.first (Ok e)). c.write_known.ensures.written one e
+    (to_second g.T.Item.Values.means next.first x next.same c.args.mode (Ok e) m) in
     let lacks = g.T.Item.Values.may_lack x c.args.mode in
-    record { rest = next.others; gives = next.gives; so_far = written_next (M next.first) (EachOf M next.others) lacks so_far wrote (same_result _ c.in_ok-write_known.was) }
+    record {
+      rest = next.others;
+      gives = next.gives;
+      so_far = written_next (M next.first) (EachOf M next.others) lacks so_far wrote (same_result _ c.in_ok-write_known.was);
+    }
 
 pub returns-in_err-write_known-clause-written : goal.returns-in_err-write_known-clause-written
 returns-in_err-write_known-clause-written g c = λ e meant.
@@ -53,9 +64,11 @@ returns-in_err-write_known-clause-written g c = λ e meant.
     let run = c.loop-item.invariant in
     let step = subst (λ r. g.T.IntoIter.Iterator.next_gives c.loop-item.item-iterator r c.next.new.self) c.in-Some.is c.next.ensures.steps in
     let next = next_of g.T.IntoIter.Iterator.next_gives g.T.Item.Values.can_encode g.T.Item.Values.means _ _ run.rest x run.gives step in
-    let so_far = subst (λ l. WrittenSoFar Means (EachOf M l) (g.W.Write.contents c.args.target.now) (g.W.Write.contents c.loop-item.target)) next.is run.so_far in
+    let so_far =
+    subst (λ l. WrittenSoFar Means (EachOf M l) (g.W.Write.contents c.args.target.now) (g.W.Write.contents c.loop-item.target)) next.is run.so_far in
     let one = (g.met.T.Item.Values.lawful x c.args.mode next.may).one in
-    let wrote = λ (e : Encoded) (m : M next.first (Ok e)). c.write_known.ensures.written one e (to_second g.T.Item.Values.means next.first x next.same c.args.mode (Ok e) m) in
+    let wrote = λ (e : Encoded) (m : M next.first (Ok e)). c.write_known.ensures.written one e
+    (to_second g.T.Item.Values.means next.first x next.same c.args.mode (Ok e) m) in
     let lacks = g.T.Item.Values.may_lack x c.args.mode in
     let (copy, cloned, made) = c.in-Ok.ensures.items in
     let item_lacks = λ (h : lacks). inr (record {
@@ -74,7 +87,8 @@ returns-in_err-write_known-clause-written g c = λ e meant.
       may = h;
     })
     in
-    halts _ c.from_residual.ensures (lacks_more _ item_lacks (written_failed (M next.first) (EachOf M next.others) lacks so_far wrote (same_result _ c.in_err-write_known.was) e meant))
+    halts _ c.from_residual.ensures
+    (lacks_more _ item_lacks (written_failed (M next.first) (EachOf M next.others) lacks so_far wrote (same_result _ c.in_err-write_known.was) e meant))
 
 pub returns-clause-written : goal.returns-clause-written
 returns-clause-written g c = λ e meant.
@@ -83,4 +97,5 @@ returns-clause-written g c = λ e meant.
     let run = c.loop-item.invariant in
     let step = subst (λ r. g.T.IntoIter.Iterator.next_gives c.loop-item.item-iterator r c.next.new.self) c.in-None.is c.next.ensures.steps in
     let none = none_left g.T.IntoIter.Iterator.next_gives g.T.Item.Values.can_encode g.T.Item.Values.means _ _ run.rest run.gives step in
-    written_done (subst (λ l. WrittenSoFar Means (EachOf M l) (g.W.Write.contents c.args.target.now) (g.W.Write.contents c.loop-item.target)) none run.so_far) _ e meant
+    written_done
+    (subst (λ l. WrittenSoFar Means (EachOf M l) (g.W.Write.contents c.args.target.now) (g.W.Write.contents c.loop-item.target)) none run.so_far) _ e meant

@@ -15,7 +15,8 @@ write_known-requires g c =
     let x = c.item-item.result in
     let M = λ (v : g.row.V.Denot). g.V.Values.means v c.args.mode in
     let at = EachOf_at M xs c.loop-item.item-index x c.loop-item-test.true c.item-item.is in
-    let so_far = subst (λ P. WrittenSoFar (EachOf M xs) P (g.W.Write.contents c.args.target.now) (g.W.Write.contents c.loop-item.target)) at c.loop-item.invariant.0 in
+    let so_far = subst (λ P. WrittenSoFar (EachOf M xs) P (g.W.Write.contents c.args.target.now) (g.W.Write.contents c.loop-item.target)) at
+    c.loop-item.invariant.0 in
     let R = λ (v : g.row.V.Denot). g.V.Values.reads v c.args.mode in
     let reads_at = ReadsEach_at R xs c.loop-item.item-index x c.loop-item-test.true c.item-item.is in
     let read = subst (λ P. ReadSoFar (ReadsEach R xs) P c.args.sizes.now.sizes.now c.loop-item.sizes.sizes.now) reads_at c.loop-item.invariant.1 in
@@ -31,13 +32,15 @@ loop-item-preserved g c =
     let x = c.item-item.result in
     let M = λ (v : g.row.V.Denot). g.V.Values.means v c.args.mode in
     let at = EachOf_at M xs c.loop-item.item-index x c.loop-item-test.true c.item-item.is in
-    let so_far = subst (λ P. WrittenSoFar (EachOf M xs) P (g.W.Write.contents c.args.target.now) (g.W.Write.contents c.loop-item.target)) at c.loop-item.invariant.0 in
+    let so_far = subst (λ P. WrittenSoFar (EachOf M xs) P (g.W.Write.contents c.args.target.now) (g.W.Write.contents c.loop-item.target)) at
+    c.loop-item.invariant.0 in
     let can = subst g.V.Values.can_encode (sym c.item-item.is) (c.requires.can c.loop-item.item-index x c.loop-item-test.true) in
     let one = (g.met.V.Values.lawful x c.args.mode can).one in
     let R = λ (v : g.row.V.Denot). g.V.Values.reads v c.args.mode in
     let reads_at = ReadsEach_at R xs c.loop-item.item-index x c.loop-item-test.true c.item-item.is in
     let read = subst (λ P. ReadSoFar (ReadsEach R xs) P c.args.sizes.now.sizes.now c.loop-item.sizes.sizes.now) reads_at c.loop-item.invariant.1 in (
-      written_next (M x) (EachOf M (drop (c.loop-item.item-index + 1) xs)) (g.V.Values.may_lack x c.args.mode) so_far (c.write_known.ensures.written one) (same_result _ c.in_ok-write_known.was),
+      written_next (M x) (EachOf M (drop (c.loop-item.item-index + 1) xs)) (g.V.Values.may_lack x c.args.mode) so_far (c.write_known.ensures.written one)
+          (same_result _ c.in_ok-write_known.was),
       read_next (R x) (ReadsEach R (drop (c.loop-item.item-index + 1) xs)) read c.in_ok-write_known.ensures.left,
     )
 
@@ -47,21 +50,25 @@ returns-in_err-write_known-clause-written g c = λ e meant.
     let x = c.item-item.result in
     let M = λ (v : g.row.V.Denot). g.V.Values.means v c.args.mode in
     let at = EachOf_at M xs c.loop-item.item-index x c.loop-item-test.true c.item-item.is in
-    let so_far = subst (λ P. WrittenSoFar (EachOf M xs) P (g.W.Write.contents c.args.target.now) (g.W.Write.contents c.loop-item.target)) at c.loop-item.invariant.0 in
+    let so_far = subst (λ P. WrittenSoFar (EachOf M xs) P (g.W.Write.contents c.args.target.now) (g.W.Write.contents c.loop-item.target)) at
+    c.loop-item.invariant.0 in
     let can = subst g.V.Values.can_encode (sym c.item-item.is) (c.requires.can c.loop-item.item-index x c.loop-item-test.true) in
     let one = (g.met.V.Values.lawful x c.args.mode can).one in
     halts _ c.from_residual.ensures (lacks_more _ (λ h. (c.loop-item.item-index, x, c.loop-item-test.true, sym c.item-item.is, h))
-    (written_failed (M x) (EachOf M (drop (c.loop-item.item-index + 1) xs)) (g.V.Values.may_lack x c.args.mode) so_far (c.write_known.ensures.written one) (same_result _ c.in_err-write_known.was) e meant))
+    (written_failed (M x) (EachOf M (drop (c.loop-item.item-index + 1) xs)) (g.V.Values.may_lack x c.args.mode) so_far (c.write_known.ensures.written one)
+    (same_result _ c.in_err-write_known.was) e meant))
 
 pub returns-clause-written : goal.returns-clause-written
 returns-clause-written g c = λ e meant.
     let xs = c.args.self.now.items.now in
     let M = λ (v : g.row.V.Denot). g.V.Values.means v c.args.mode in
     let at = EachOf_end M xs c.loop-item.item-index c.loop-item-test.false in
-    written_done (subst (λ P. WrittenSoFar (EachOf M xs) P (g.W.Write.contents c.args.target.now) (g.W.Write.contents c.loop-item.target)) at c.loop-item.invariant.0) _ e meant
+    written_done (subst (λ P. WrittenSoFar (EachOf M xs) P (g.W.Write.contents c.args.target.now) (g.W.Write.contents c.loop-item.target)) at
+    c.loop-item.invariant.0) _ e meant
 
 pub returns-clause-left : goal.returns-clause-left
 returns-clause-left g c =
     let xs = c.args.self.now.items.now in
     let R = λ (v : g.row.V.Denot). g.V.Values.reads v c.args.mode in
-    read_done (subst (λ P. ReadSoFar (ReadsEach R xs) P c.args.sizes.now.sizes.now c.loop-item.sizes.sizes.now) (ReadsEach_end R xs c.loop-item.item-index c.loop-item-test.false) c.loop-item.invariant.1)
+    read_done (subst (λ P. ReadSoFar (ReadsEach R xs) P c.args.sizes.now.sizes.now c.loop-item.sizes.sizes.now)
+    (ReadsEach_end R xs c.loop-item.item-index c.loop-item-test.false) c.loop-item.invariant.1)

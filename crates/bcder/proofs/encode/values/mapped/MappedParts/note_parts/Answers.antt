@@ -8,7 +8,8 @@ pub loop-item-init : goal.loop-item-init
 loop-item-init g c = so_far_start _
 
 pub item_len-requires : goal.item_len-requires
-item_len-requires g c = subst (MayMap g.F.Fn c.args.self.now.f.now g.V.Values.can_encode g.V.Values.means) (sym c.item-item.is) (c.requires c.loop-item.item-index c.item-item.result c.loop-item-test.true)
+item_len-requires g c = subst (MayMap g.F.Fn c.args.self.now.f.now g.V.Values.can_encode g.V.Values.means) (sym c.item-item.is)
+    (c.requires c.loop-item.item-index c.item-item.result c.loop-item-test.true)
 
 pub loop-item-preserved : goal.loop-item-preserved
 loop-item-preserved g c =

@@ -6,7 +6,8 @@ pub returns-in-Some-clause-sized : goal.returns-in-Some-clause-sized
 returns-in-Some-clause-sized g c =
     let mode = c.args.mode in
     let chain = c.args.self.now in
-    sum_with (g.V.Values.means chain.first.now mode) (g.R.Parts.all chain.rest mode) _ _ _ _ c.in_ok-first.ensures.sized c.in_ok-rest.ensures.sized c.in-Some.is c.checked_add.ensures
+    sum_with (g.V.Values.means chain.first.now mode)
+    (g.R.Parts.all chain.rest mode) _ _ _ _ c.in_ok-first.ensures.sized c.in_ok-rest.ensures.sized c.in-Some.is c.checked_add.ensures
 
 pub returns-in-None-clause-sized : goal.returns-in-None-clause-sized
 returns-in-None-clause-sized g c =

@@ -19,7 +19,8 @@ write_parts-requires-clause-sized g c =
 pub returns-in_err-write_known-clause-written : goal.returns-in_err-write_known-clause-written
 returns-in_err-write_known-clause-written g c = λ e (x, y, p, q, is).
     let one = (g.met.V.Values.lawful c.args.self.now.first.now c.args.mode c.requires.can.0).one in
-    same_octets (ap encoded_octets (sym is)) (halts _ c.from_residual.ensures (lacks_more _ inl (stops y.octets (c.in_err-write_known.ensures.written one x p))))
+    same_octets (ap encoded_octets (sym is))
+    (halts _ c.from_residual.ensures (lacks_more _ inl (stops y.octets (c.in_err-write_known.ensures.written one x p))))
 
 pub returns-clause-written : goal.returns-clause-written
 returns-clause-written g c = λ e (x, y, p, q, is).
@@ -30,4 +31,5 @@ pub returns-clause-left : goal.returns-clause-left
 returns-clause-left g c =
     let mode = c.args.mode in
     let chain = c.args.self.now in
-    where_ok c.write_parts.result (then_read (g.V.Values.reads chain.first.now mode) (g.R.Parts.reads chain.rest mode) _ _ _ c.in_ok-write_known.ensures.left) c.write_parts.ensures.left
+    where_ok c.write_parts.result
+    (then_read (g.V.Values.reads chain.first.now mode) (g.R.Parts.reads chain.rest mode) _ _ _ c.in_ok-write_known.ensures.left) c.write_parts.ensures.left

@@ -10,12 +10,15 @@ invariant_of-self c =
     let s = c.self.inside in
     let left = drop s.next s.segments.items in
     let more = drop-drop c.args.count s.next s.segments.items in
-    let count = ap (λ (b : ToCome). length b.parts) c.self.view_is in
-    (subst (AreWithin s.octets) more (AreWithin-drop s.octets left c.args.count c.self.invariant.0), omega (arith, count, c.self.invariant.1, c.requires, segments_at-length s.octets left, length-drop s.next s.segments.items))
+    let count = ap (λ (b : ToCome). length b.parts) c.self.view_is in (
+      subst (AreWithin s.octets) more (AreWithin-drop s.octets left c.args.count c.self.invariant.0),
+      omega (arith, count, c.self.invariant.1, c.requires, segments_at-length s.octets left, length-drop s.next s.segments.items),
+    )
 
 pub returns : goal.returns
 returns c =
     let s = c.self.inside in
     let left = drop s.next s.segments.items in
-    ap (λ ps. record { octets = s.octets; parts = ps }) (ap (segments_at s.octets) (sym (drop-drop c.args.count s.next s.segments.items)) ∙ segments_at-drop s.octets left c.args.count)
+    ap (λ ps. record { octets = s.octets; parts = ps })
+    (ap (segments_at s.octets) (sym (drop-drop c.args.count s.next s.segments.items)) ∙ segments_at-drop s.octets left c.args.count)
     ∙ ap (λ (b : ToCome). record { octets = b.octets; parts = drop c.args.count b.parts }) c.self.view_is

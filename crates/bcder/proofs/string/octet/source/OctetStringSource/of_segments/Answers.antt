@@ -14,7 +14,8 @@ invariant_of-result c =
     let front = c.of_block.result in
     let behind = c.new-behind.result in
     let none : front.octets ≡ [] = ap (λ (f : InBlock). f.octets) c.of_block.ensures ∙ c.new.ensures in
-    let are : behind.parts ≡ ps = ap (λ (b : ToCome). b.parts) c.new-behind.ensures ∙ ap (λ w. segments_at w c.args.segments.items) c.into_bytes.ensures.value in
+    let are : behind.parts ≡ ps =
+    ap (λ (b : ToCome). b.parts) c.new-behind.ensures ∙ ap (λ w. segments_at w c.args.segments.items) c.into_bytes.ensures.value in
     let all : concat ps ≡ concat behind.parts = sym (ap concat are) in
     let same : concat ps ≡ front.octets ++ concat behind.parts = all ∙ sym (ap (λ w. w ++ concat behind.parts) none) in
     let shorter = parts_shorter kept.mode kept.octets ps c.requires.segmented in

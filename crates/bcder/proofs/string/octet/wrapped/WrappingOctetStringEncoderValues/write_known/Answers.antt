@@ -10,4 +10,5 @@ put_wrapped-requires g c =
 pub returns-in-Some-clause-left : goal.returns-in-Some-clause-left
 returns-in-Some-clause-left g c =
     let x = c.args.self.now in
-    where_ok c.put_wrapped.result (inside_read (g.V.Values.means x.values x.mode) (g.V.Values.reads x.values x.mode) _ _ _ _ c.in-Some.ensures) c.put_wrapped.ensures.left
+    where_ok c.put_wrapped.result
+    (inside_read (g.V.Values.means x.values x.mode) (g.V.Values.reads x.values x.mode) _ _ _ _ c.in-Some.ensures) c.put_wrapped.ensures.left

@@ -26,7 +26,8 @@ returns-after-next_char-clause-steps g c =
     let w0 = c.self.inside.octets.octets in
     let w1 = c.next_char.new.octets.octets in
     elim c.match-next_char.branch [
-      | in-Ok w ↦ rw (w.result-is) (yields_octets step c.self.inside.text _ w0 w1 w.in-Ok.next c.in-None.is c.self.view_is (yields_next step lawful w0 w1 w.in-Ok.next w.in-Ok.ensures c.self.invariant.1))
+      | in-Ok w ↦ rw (w.result-is) (yields_octets step c.self.inside.text _ w0 w1 w.in-Ok.next c.in-None.is c.self.view_is
+          (yields_next step lawful w0 w1 w.in-Ok.next w.in-Ok.ensures c.self.invariant.1))
       | in-Err w ↦ absurd (never_refused step lawful w0 w1 w.in-Err.field-0 w.in-Err.ensures c.self.invariant.1)
     ]
 

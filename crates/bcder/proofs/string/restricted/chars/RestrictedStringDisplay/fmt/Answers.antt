@@ -9,8 +9,11 @@ pub loop-c-preserved : goal.loop-c-preserved
 loop-c-preserved g c =
     λ plain.
     let now = c.loop-c.invariant plain in
-    let all = append_assoc now.0 (c.in-Some-c.c ∷ []) c.next.new.self ∙ ap (λ w. now.0 ++ w) (sym c.in-Some-c.ensures.steps) ∙ now.1 in
-    (now.0 ++ c.in-Some-c.c ∷ [], all, has_written_of_eq _ _ _ _ _ (sym (encoded_behind now.0 c.in-Some-c.c)) (has_written_append _ _ _ _ _ _ now.2 (search rules)))
+    let all = append_assoc now.0 (c.in-Some-c.c ∷ []) c.next.new.self ∙ ap (λ w. now.0 ++ w) (sym c.in-Some-c.ensures.steps) ∙ now.1 in (
+      now.0 ++ c.in-Some-c.c ∷ [],
+      all,
+      has_written_of_eq _ _ _ _ _ (sym (encoded_behind now.0 c.in-Some-c.c)) (has_written_append _ _ _ _ _ _ now.2 (search rules)),
+    )
 
 pub returns-in-Some-clause-writes : goal.returns-in-Some-clause-writes
 returns-in-Some-clause-writes g c =

@@ -5,4 +5,5 @@ use Rattle.bcder.proofs.string.restricted.chars.RestrictedStringDisplay.fmt.Give
 -- characters were written, and the others are still to come
 abbrev pub invariant-loop-c : goal.invariant-loop-c
 invariant-loop-c g l =
-    IsPlainFormatter l.initial.f → (written : List ℕ) × (written ++ l.c-iterator ≡ l.initial.c-iterator) × HasWritten g.W.Write.write_str_gives l.initial.f (encode_utf8_all written) l.f
+    IsPlainFormatter l.initial.f
+    → (written : List ℕ) × (written ++ l.c-iterator ≡ l.initial.c-iterator) × HasWritten g.W.Write.write_str_gives l.initial.f (encode_utf8_all written) l.f

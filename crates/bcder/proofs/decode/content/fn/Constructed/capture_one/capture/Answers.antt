@@ -15,7 +15,11 @@ returns-in-Ok-None g c = record {
   passed = record {
     passed = tt;
     no_fault = tt;
-    refused = nothing (end_has_none (of_captured g.S.Source.stream c.args.cons.now) (of_captured g.S.Source.stream c.skip_one.new.self) (within_constructed (capturing (limited_stream g.S.Source.stream)) (λ s. ahead_sound s.source.ghost_name s.pos (limited_stream g.S.Source.stream s.source.now) (limited_sound s.source.now.limit (g.S.Source.stream s.source.now.source) (g.met.S.Source.sound s.source.now.source))) c.args.cons.now) (rw c.in-Ok-None.field-0-is at c.in-Ok-None.ensures.skipped.end)) (names_end (of_captured g.S.Source.stream c.args.cons.now) (cause_of c.refusal.result) c.refusal.ensures (of_captured g.S.Source.stream c.skip_one.new.self).stream.rest (rw c.in-Ok-None.field-0-is at c.in-Ok-None.ensures.skipped.end));
+    refused = nothing (end_has_none (of_captured g.S.Source.stream c.args.cons.now) (of_captured g.S.Source.stream c.skip_one.new.self)
+        (within_constructed (capturing (limited_stream g.S.Source.stream)) (λ s. ahead_sound s.source.ghost_name s.pos (limited_stream g.S.Source.stream
+        s.source.now) (limited_sound s.source.now.limit (g.S.Source.stream s.source.now.source) (g.met.S.Source.sound s.source.now.source))) c.args.cons.now)
+        (rw c.in-Ok-None.field-0-is at c.in-Ok-None.ensures.skipped.end)) (names_end (of_captured g.S.Source.stream c.args.cons.now) (cause_of c.refusal.result)
+        c.refusal.ensures (of_captured g.S.Source.stream c.skip_one.new.self).stream.rest (rw c.in-Ok-None.field-0-is at c.in-Ok-None.ensures.skipped.end));
     marked = c.skip_one.ensures.skipped.marked;
   };
 }
@@ -26,7 +30,8 @@ returns-in-Err g c = record {
   passed = record {
     passed = tt;
     no_fault = tt;
-    refused = one_refused (of_captured g.S.Source.stream c.args.cons.now) (of_captured g.S.Source.stream c.skip_one.new.self) c.in-Err.error c.in-Err.ensures.skipped.refused;
+    refused = one_refused (of_captured g.S.Source.stream c.args.cons.now)
+        (of_captured g.S.Source.stream c.skip_one.new.self) c.in-Err.error c.in-Err.ensures.skipped.refused;
     marked = c.skip_one.ensures.skipped.marked;
   };
 }

@@ -9,6 +9,7 @@ returns c =
     let f = c.self.inside in
     let len = c.args.len in
     let size = ap (λ (g : InBlock). length g.octets) c.self.view_is in
-    let fits : f.start + len ≤ f.end = omega (arith, size, c.requires, c.self.invariant.0, range_length f.block f.start f.end c.self.invariant.0 c.self.invariant.1) in
+    let fits : f.start + len ≤ f.end =
+    omega (arith, size, c.requires, c.self.invariant.0, range_length f.block f.start f.end c.self.invariant.0 c.self.invariant.1) in
     ap (λ w. record { block = f.block; octets = w; is_shared = f.is_shared }) (sym (drop-slice_range f.block f.start f.end len fits))
     ∙ ap (λ (g : InBlock). record { block = g.block; octets = drop len g.octets; is_shared = g.is_shared }) c.self.view_is
