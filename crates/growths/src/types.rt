@@ -36,14 +36,16 @@ fn joined(alloc: Global) -> End {
     }
 }
 
-/// Finds out that a value of a list is of another type. If memory runs out for the path to it, the
-/// position is told all the same.
+/// Finds out that the second number of a list has more than 32 bits. If memory runs out for the path
+/// to it, the position is told all the same.
 fn refuses(alloc: Global) -> End {
-    let octets: &[u8] = &[0x30, 0x06, 0x02, 0x01, 0x05, 0x01, 0x01, 0xFF];
+    let octets: &[u8] = &[
+        0x30, 0x0A, 0x02, 0x01, 0x05, 0x02, 0x05, 0x01, 0x00, 0x00, 0x00, 0x00,
+    ];
     match decode_octets::<SequenceOf<u32>>(alloc, Mode::Der, octets) {
         Ok(_) => End::Wrong,
         Err(error) => match error.position() {
-            Some(pos) => answered(usize::from(pos) == 5),
+            Some(pos) => answered(usize::from(pos) == 7),
             None => refused(error.error.is_memory(), true),
         },
     }
