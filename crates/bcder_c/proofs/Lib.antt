@@ -15,3 +15,8 @@ pub mod Magnitudes
 pub mod Storing
 pub mod Strings
 pub mod Identifiers
+pub mod PiecesRead
+pub mod PiecesBecome
+pub mod PiecesWritten
+pub mod Passing
+pub mod Converting

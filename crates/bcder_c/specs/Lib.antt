@@ -11,3 +11,5 @@ pub mod Identifiers
 pub mod Negated
 pub mod Strings
 pub mod Text
+pub mod Conversion
+pub mod Pieces
