@@ -138,13 +138,14 @@ uint8_t bcder_string(uint8_t rules, bool constructed, const uint8_t *data, size_
  * those of bcder_string do. Time and memory are linear in `len`, at any depth; memory by malloc.
  *
  * To BER the octets stay as they are. To CER and DER headers are written anew, and the octet of a
- * boolean that is true becomes FF; contents octets of other primitive values stay. ABSENT: the octets
- * are no values in `from`. NOT_CONVERTED: they are, but to CER or DER one of them is
+ * boolean that is true becomes FF; contents octets of other primitive values stay. To DER a string that
+ * is cut into segments is joined, in whichever way BER allows it to be cut. ABSENT: the octets are no
+ * values in `from`. NOT_CONVERTED: they are, but to CER or DER one of them is
  *   - a boolean that is constructed, or that hasn't one octet,
  *   - a bit string that is constructed, has unused bits that aren't zero, or isn't one by its octets,
- *   - a string that is constructed, so cut into segments,
- *   - to CER, a string of more than 1000 contents octets, which has to be cut,
- *   - to DER, a constructed value whose contents octets would be 2^32 or more.
+ *   - a constructed string with values in it that are no OCTET STRINGs,
+ *   - to CER, a string that is cut into segments, or that has to be, with more than 1000 octets,
+ *   - to DER, a value whose contents octets would be 2^32 or more.
  * These types are known by their universal tags alone. So the result is a list of encodings in `to`,
  * but not promised are the order of the values in a SET or a SET OF, that DEFAULT values are left out,
  * and the form of strings and the octet of booleans under other tags, which stay as they are.

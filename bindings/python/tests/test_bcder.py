@@ -91,12 +91,14 @@ class Convert(unittest.TestCase):
         self.assertEqual(bcder.convert(basic, BER, BER), basic)
         self.assertEqual(bcder.convert(memoryview(der), DER, CER), cer)
         self.assertEqual(bcder.convert(b"", CER, DER), b"")
+        cut = bytes.fromhex("2c80 040161 2403 040162 0400 0000")
+        self.assertEqual(bcder.convert(cut, BER), bytes.fromhex("0c02 6162"))
 
     def test_refusals(self):
         for text, source, kind in (
             ("3080 0000", DER, Kind.ABSENT),
-            ("2403 040105", BER, Kind.NOT_CONVERTED),
-            ("2c03 040161", BER, Kind.NOT_CONVERTED),
+            ("2403 020105", BER, Kind.NOT_CONVERTED),
+            ("2c03 0c0161", BER, Kind.NOT_CONVERTED),
             ("2303 030100", BER, Kind.NOT_CONVERTED),
             ("0302 0101", BER, Kind.NOT_CONVERTED),
         ):
@@ -121,7 +123,8 @@ class Convert(unittest.TestCase):
                 if order == "=" and kind != "implicit":
                     pairs += [(basic, BER, der, DER), (basic, BER, cer, CER)]
                 for data, source, expected, target in pairs:
-                    if holds_cut_string(data, source) or holds_cut_string(expected, target):
+                    cut = holds_cut_string(data, source) or holds_cut_string(expected, target)
+                    if target is CER and cut:
                         with self.assertRaises(bcder.Error) as found:
                             bcder.convert(data, source, target)
                         self.assertEqual(found.exception.kind, Kind.NOT_CONVERTED)

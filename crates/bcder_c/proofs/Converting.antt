@@ -7,22 +7,23 @@ use Rattle.bcder.specs.declared.mode.Mode.{Mode}
 use Rattle.bcder.specs.declared.mode.Mode.TheVariants.{Ber, Cer, Der}
 use Rattle.bcder.specs.x690.Identifier.{AreOctets, Tag}
 use Rattle.bcder.specs.x690.Octets.{constructed_length, header}
+use Rattle.bcder.specs.calls.ContentsLen.{length_of}
 use Rattle.bcder.specs.x690.Tree.{Tree, primitive, constructed, Trees, no_trees, ◌∷ₜ◌}
 use Rattle.bcder.specs.x690.Encoding.{AreEncodings}
 use Rattle.bcder.specs.calls.Captured.{AreWhole}
 use Rattle.bcder.specs.laws.Complete.{one_list}
 use Rattle.bcder.specs.laws.Sound.{none_is, mapped}
 use Rattle.bcder_c.specs.declared.convert.Item.{Item}
-use Rattle.bcder_c.specs.declared.convert.Sort.TheVariants.{Begin}
+use Rattle.bcder_c.specs.declared.convert.Sort.TheVariants.{Begin, Whole, Part}
 use Rattle.bcder_c.specs.declared.convert.Kind.{Kind}
 use Rattle.bcder_c.specs.declared.convert.Kind.TheVariants.{Boolean, Bits, Text, Other}
 use Rattle.bcder_c.specs.Conversion.{kind_of, all_or_none, ContentsBecome, Becomes, Become, AreRewritten, IsConversion, Converts, converted, become_nothing}
 use Rattle.bcder_c.specs.Buffers.{Stores, stored, no_room}
 use Rattle.bcder_c.specs.Contents.{HoldsString}
 use Rattle.bcder_c.specs.Open.{Open}
-use Rattle.bcder_c.specs.Pieces.{Piece, begins, piece_of, pieces_in, pieces_of, pieces_left, before_all, PiecesBecome}
-use Rattle.bcder_c.specs.Pieces.{PassesOne, PassesNone, no_rest, one_is_nothing, ReadsAs, ReadsAsNothing, Frames, with_piece, written, all_octets}
-use Rattle.bcder_c.specs.Pieces.{AreThere, FitsBefore, Fit, IsAtBack, AreMarks, HoldsFrames, headed, all_spelled}
+use Rattle.bcder_c.specs.Pieces.{Piece, pieces_of, pieces_left, before_all, Made, made_beginning, made_string, made_part, made_of, all_made, all_make, PiecesBecome}
+use Rattle.bcder_c.specs.Pieces.{PassesOne, PassesNone, no_rest, one_is_nothing, ReadsAs, ReadsAsNothing, Frames, with_made, written, all_octets}
+use Rattle.bcder_c.specs.Pieces.{AreThere, FitsBefore, Fit, IsAtBack, AreMarks, HoldsFrames, headed, string_headed, all_spelled, TreesFit}
 use Rattle.bcder_c.proofs.PiecesRead.{before_none, before_both, nothing_left, left_sound, left_complete}
 use Rattle.bcder_c.proofs.PiecesBecome.{both_become, all_become, all_back, one_met}
 use Rattle.bcder_c.proofs.PiecesWritten.{all_written, all_fit_back, all_fit, all_encode, all_are_spelled}
@@ -30,21 +31,21 @@ use Rattle.bcder_c.proofs.PiecesWritten.{all_written, all_fit_back, all_fit, all
 -- ---- reading
 
 -- the pieces that were passed, and what they became
-pub record InRead (from to : Mode) (octets : List ℕ) (os : List Open) (x : List ℕ) (qs : List Piece) : Type 0 where
+pub record InRead (from to : Mode) (octets : List ℕ) (n : ℕ) (os : List Open) (x : List ℕ) (qs : List Made) : Type 0 where
   pub passed : List Piece
   pub same : pieces_left from [] octets ≡ before_all passed (pieces_left from os x)
-  pub become : PiecesBecome to passed qs
+  pub become : PiecesBecome to 0 passed qs n
 
-pub read_starts : (from to : Mode) (octets : List ℕ) (os : List Open) (qs : List Piece) → os ≡ [] → qs ≡ [] → InRead from to octets os octets qs
+pub read_starts : (from to : Mode) (octets : List ℕ) (os : List Open) (qs : List Made) → os ≡ [] → qs ≡ [] → InRead from to octets 0 os octets qs
 read_starts from to octets os qs e f =
-    rw (e, f) (record { passed = []; same = sym (before_none (pieces_left from [] octets)); become = tt })
+    rw (e, f) (record { passed = []; same = sym (before_none (pieces_left from [] octets)); become = refl })
 
-module _ (from to : Mode) (octets : List ℕ) (os : List Open) (x : List ℕ) (qs : List Piece) (i : InRead from to octets os x qs) where
-  pub read_on : (ps : List Open) (y : List ℕ) (q : Piece) → PassesOne from to os x ps y q → InRead from to octets ps y (qs ++ q ∷ [])
-  read_on ps y q p = record {
+module _ (from to : Mode) (octets : List ℕ) (n : ℕ) (os : List Open) (x : List ℕ) (qs : List Made) (i : InRead from to octets n os x qs) where
+  pub read_on : (m : ℕ) (ps : List Open) (y : List ℕ) (q : Made) → PassesOne from to n os x m ps y q → InRead from to octets m ps y (qs ++ q ∷ [])
+  read_on m ps y q p = record {
     passed = i.passed ++ p.piece ∷ [];
     same = i.same ∙ ap (before_all i.passed) p.same ∙ before_both i.passed (p.piece ∷ []) (pieces_left from ps y);
-    become = both_become to i.passed qs (p.piece ∷ []) (q ∷ []) i.become (p.becomes, tt);
+    become = both_become to 0 n m i.passed qs (p.piece ∷ []) (q ∷ []) i.become (m, p.becomes, refl);
   }
 
   pub read_ends : AreOctets octets → os ≡ [] → x ≡ [] → ReadsAs from to octets qs
@@ -53,10 +54,10 @@ module _ (from to : Mode) (octets : List ℕ) (os : List Open) (x : List ℕ) (q
       let all : pieces_left from [] octets ≡ Some (i.passed ++ []) = same ∙ ap (before_all i.passed) (nothing_left from) in
       let v = left_sound from octets (i.passed ++ []) o all in
       let e : i.passed ≡ pieces_of v.trees = sym (append-nil i.passed) ∙ v.are in
-      let b = all_back to v.trees qs (subst (λ l. PiecesBecome to l qs) e i.become) in
+      let b = all_back to v.trees qs n (subst (λ l. PiecesBecome to 0 l qs n) e i.become) in
       record { read = v.trees; encode = v.encode; trees = b.trees; become = b.become; are = b.are }
 
-  pub read_stops : PassesNone from to os x → ReadsAsNothing from to octets
+  pub read_stops : PassesNone from to n os x → ReadsAsNothing from to octets
   read_stops (no_rest e) ts us h b =
       none_is _ (sym (i.same ∙ ap (before_all i.passed) e) ∙ left_complete from octets ts h)
   read_stops (one_is_nothing p r e nothing) ts us h b =
@@ -64,26 +65,27 @@ module _ (from to : Mode) (octets : List ℕ) (os : List Open) (x : List ℕ) (q
       sym (i.same ∙ ap (before_all i.passed) e ∙ before_both i.passed (p ∷ []) r) ∙ left_complete from octets ts h in
       let m = mapped (λ (l : List Piece). (i.passed ++ p ∷ []) ++ l) r (pieces_of ts) all in
       let is : i.passed ++ p ∷ m.0 ≡ pieces_of ts = sym (append_assoc i.passed (p ∷ []) m.0) ∙ m.2 in
-      let q = one_met to i.passed p m.0 (pieces_of us) (subst (λ l. PiecesBecome to l (pieces_of us)) (sym is) (all_become to ts us b)) in
-      nothing q.0 q.1
+      let q = one_met to 0 0 i.passed p m.0 (all_make ts us)
+      (subst (λ l. PiecesBecome to 0 l (all_make ts us) 0) (sym is) (all_become to ts us b)) qs n i.become in
+      nothing q.0 q.1 q.2
 
 -- ---- writing
 
-in_rest : (mode : Mode) (a b : List Piece) → Fit mode (a ++ b) → Fit mode b
+in_rest : (mode : Mode) (a b : List Made) → Fit mode (a ++ b) → Fit mode b
 in_rest mode [] b h = h
-in_rest mode (p ∷ a) b h = in_rest mode a b h.1
+in_rest mode (q ∷ a) b h = in_rest mode a b h.1
 
 -- what was written of the items behind the rest
 pub record InWrite (mode : Mode) (items rest : List Item) (first now : List ℕ) (at : ℕ) (marks : List ℕ) : Type 0 where
-  pub done : List Piece
-  pub split : pieces_in items ≡ pieces_in rest ++ done
+  pub done : List Made
+  pub split : all_made items ≡ all_made rest ++ done
   pub fit : Fit mode done
   pub holds : HoldsFrames (written mode done) first now at marks
 
 pub write_starts : (mode : Mode) (items : List Item) (first : List ℕ) (marks : List ℕ) → marks ≡ [] → InWrite mode items items first first 0 marks
 write_starts mode items first marks e = rw e (record {
   done = [];
-  split = sym (append-nil (pieces_in items));
+  split = sym (append-nil (all_made items));
   fit = tt;
   holds = record { stored = record { count = refl; room = refl; back = λ l. whole first }; are_marks = tt };
 })
@@ -93,40 +95,40 @@ write_starts mode items first marks e = rw e (record {
 
 module _ (mode : Mode) (items rest : List Item) (first now : List ℕ) (at : ℕ) (marks : List ℕ) (i : InWrite mode items rest first now at marks) where
   pub write_on : (before : List Item) (item : Item) (new : List ℕ) (to : ℕ) (more : List ℕ) → rest ≡ before ++ item ∷ []
-      → ((f : Frames) (v : List ℕ) → HoldsFrames f v now at marks → HoldsFrames (with_piece mode (piece_of item) f) v new to more)
-      → ((f : Frames) (v : List ℕ) → HoldsFrames f v now at marks → FitsBefore mode (piece_of item) f)
+      → ((f : Frames) (v : List ℕ) → HoldsFrames f v now at marks → HoldsFrames (with_made mode (made_of item) f) v new to more)
+      → ((f : Frames) (v : List ℕ) → HoldsFrames f v now at marks → FitsBefore mode (made_of item) f)
       → InWrite mode items before first new to more
   write_on before item new to more is put fits = record {
-    done = piece_of item ∷ i.done;
-    split = i.split ∙ ap (λ l. pieces_in l ++ i.done) is ∙ ap (λ l. l ++ i.done) (map-append piece_of before (item ∷ []))
-        ∙ append_assoc (pieces_in before) (piece_of item ∷ []) i.done;
+    done = made_of item ∷ i.done;
+    split = i.split ∙ ap (λ l. all_made l ++ i.done) is ∙ ap (λ l. l ++ i.done) (map-append made_of before (item ∷ []))
+        ∙ append_assoc (all_made before) (made_of item ∷ []) i.done;
     fit = (fits (written mode i.done) first i.holds, i.fit);
     holds = put (written mode i.done) first i.holds;
   }
 
   pub write_stops : (before : List Item) (item : Item) → rest ≡ before ++ item ∷ []
-      → ((f : Frames) (v : List ℕ) → HoldsFrames f v now at marks → FitsBefore mode (piece_of item) f → ⊥) → Fit mode (pieces_in items) → ⊥
+      → ((f : Frames) (v : List ℕ) → HoldsFrames f v now at marks → FitsBefore mode (made_of item) f → ⊥) → Fit mode (all_made items) → ⊥
   write_stops before item is never f =
-      let split : pieces_in items ≡ pieces_in before ++ piece_of item ∷ i.done =
-      i.split ∙ ap (λ l. pieces_in l ++ i.done) is ∙ ap (λ l. l ++ i.done) (map-append piece_of before (item ∷ []))
-      ∙ append_assoc (pieces_in before) (piece_of item ∷ []) i.done in
-      never (written mode i.done) first i.holds (in_rest mode (pieces_in before) (piece_of item ∷ i.done) (subst (Fit mode) split f)).0
+      let split : all_made items ≡ all_made before ++ made_of item ∷ i.done =
+      i.split ∙ ap (λ l. all_made l ++ i.done) is ∙ ap (λ l. l ++ i.done) (map-append made_of before (item ∷ []))
+      ∙ append_assoc (all_made before) (made_of item ∷ []) i.done in
+      never (written mode i.done) first i.holds (in_rest mode (all_made before) (made_of item ∷ i.done) (subst (Fit mode) split f)).0
 
-  pub write_ends : rest ≡ [] → Fit mode (pieces_in items) × IsAtBack (all_octets (written mode (pieces_in items))) first now at
+  pub write_ends : rest ≡ [] → Fit mode (all_made items) × IsAtBack (all_octets (written mode (all_made items))) first now at
   write_ends e =
-      let same : i.done ≡ pieces_in items = sym (i.split ∙ ap (λ l. pieces_in l ++ i.done) e) in
+      let same : i.done ≡ all_made items = sym (i.split ∙ ap (λ l. all_made l ++ i.done) e) in
       (subst (Fit mode) same i.fit, subst (λ ps. IsAtBack (all_octets (written mode ps)) first now at) same i.holds.stored)
 
 -- ---- what is written is what the values become
 
-pub made : (from to : Mode) (octets : List ℕ) (ps : List Piece) → ReadsAs from to octets ps → Fit to ps
-    → AreRewritten from to octets (all_octets (written to ps))
-made from to octets ps r f =
-    let ends : written to ps ≡ record { inner = all_spelled to r.trees ++ []; outer = [] } =
-    ap (written to) (r.are ∙ sym (append-nil (pieces_of r.trees))) ∙ all_written to r.trees [] in
-    let is : all_octets (written to ps) ≡ all_spelled to r.trees =
+pub made : (from to : Mode) (octets : List ℕ) (qs : List Made) → ReadsAs from to octets qs → Fit to qs
+    → AreRewritten from to octets (all_octets (written to qs))
+made from to octets qs r f =
+    let ends : written to qs ≡ record { inner = all_spelled to r.trees ++ []; outer = [] } =
+    ap (written to) (r.are ∙ sym (append-nil (all_make r.read r.trees))) ∙ all_written to r.read r.trees [] r.become in
+    let is : all_octets (written to qs) ≡ all_spelled to r.trees =
     ap all_octets ends ∙ append-nil (all_spelled to r.trees ++ []) ∙ append-nil (all_spelled to r.trees) in
-    let fit = all_fit to r.trees [] (subst (Fit to) (r.are ∙ sym (append-nil (pieces_of r.trees))) f) in
+    let fit = all_fit to r.read r.trees [] r.become (subst (Fit to) (r.are ∙ sym (append-nil (all_make r.read r.trees))) f) in
     record {
       read = r.read;
       encode = r.encode;
@@ -134,6 +136,9 @@ made from to octets ps r f =
       become = r.become;
       is = subst (AreEncodings to r.trees) (sym is) (all_encode from to r.read r.trees octets r.encode r.become fit.0);
     }
+
+no_other : (k : Kind) → k ≡ Text → k ≡ Other → ⊥
+no_other k t o = (let e : Text ≡ Other = sym t ∙ o in absurd cc)
 
 contents_once : (mode : Mode) (k : Kind) (c d e : List ℕ) → ContentsBecome mode k c d → ContentsBecome mode k c e → d ≡ e
 contents_once mode Boolean c d e a b =
@@ -151,8 +156,9 @@ mutual
   one_once mode (primitive t c) (primitive u d) (primitive v e) a b = ap₂ (λ x y. primitive x y) (a.0 ∙ sym b.0) (contents_once mode (kind_of t) c d e a.1 b.1)
   one_once mode (primitive t c) (primitive u d) (constructed v vs) a b = absurd b
   one_once mode (primitive t c) (constructed u us) v a b = absurd a
-  one_once mode (constructed t ts) (primitive u d) v a b = absurd a
-  one_once mode (constructed t ts) (constructed u us) (primitive v e) a b = absurd b
+  one_once mode (constructed t ts) (primitive u d) (primitive v e) a b = ap₂ (λ x y. primitive x y) (a.0 ∙ sym b.0) (a.1.is ∙ sym b.1.is)
+  one_once mode (constructed t ts) (primitive u d) (constructed v vs) a b = absurd (no_other (kind_of t) a.1.text b.1)
+  one_once mode (constructed t ts) (constructed u us) (primitive v e) a b = absurd (no_other (kind_of t) b.1.text a.1)
   one_once mode (constructed t ts) (constructed u us) (constructed v vs) a b =
       ap₂ (λ x y. constructed x y) (a.0 ∙ sym b.0) (all_once mode ts us vs a.2 b.2)
 
@@ -164,14 +170,13 @@ mutual
   all_once mode (t ∷ₜ ts) (u ∷ₜ us) no_trees a b = absurd b
   all_once mode (t ∷ₜ ts) (u ∷ₜ us) (v ∷ₜ vs) a b = ap₂ (λ x y. x ∷ₜ y) (one_once mode t u v a.0 b.0) (all_once mode ts us vs a.1 b.1)
 
-pub not_made : (from to : Mode) (octets : List ℕ) (ps : List Piece) → to ≢ Ber → ReadsAs from to octets ps → (Fit to ps → ⊥) → (w : List ℕ)
+pub not_made : (from to : Mode) (octets : List ℕ) (qs : List Made) → to ≢ Ber → ReadsAs from to octets qs → (Fit to qs → ⊥) → (w : List ℕ)
     → AreRewritten from to octets w → ⊥
-not_made from to octets ps ne r never w a =
+not_made from to octets qs ne r never w a =
     let same : a.read ≡ r.read = one_list from a.read r.read octets a.encode r.encode in
     let trees : a.written ≡ r.trees = all_once to r.read a.written r.trees (subst (λ ts. Become to ts a.written) same a.become) r.become in
-    let fit = (all_are_spelled to ne a.written w a.is).0 in
-    let f = all_fit_back to a.written [] fit tt in
-    never (subst (Fit to) (append-nil (pieces_of a.written) ∙ ap pieces_of trees ∙ sym r.are) f)
+    let fit : TreesFit to r.trees = subst (TreesFit to) trees (all_are_spelled to ne a.written w a.is).0 in
+    never (subst (Fit to) (append-nil (all_make r.read r.trees) ∙ sym r.are) (all_fit_back to r.read r.trees [] r.become fit tt))
 
 pub conversion : (from to : Mode) (octets w : List ℕ) → to ≢ Ber → AreRewritten from to octets w → IsConversion from to octets w
 conversion from Ber octets w ne a = absurd (ne refl)
@@ -245,13 +250,34 @@ module _ (f : Frames) (first now : List ℕ) (at : ℕ) (marks : List ℕ) (h : 
             rw o (ap (λ v. d ++ v) (sym (append_assoc f.inner g (concat fs))) ∙ sym (append_assoc d (f.inner ++ g) (concat fs))) in
             rw o (record { stored = subst (λ v. IsAtBack v first new to) same b; are_marks = m.1 })
 
+    pub string_held : (t : Tag) (new : List ℕ) (to : ℕ)
+        → (IsAtBack (all_octets f) first now at → IsAtBack (header t false (length_of (Some (at - mark))) ++ all_octets f) first new to)
+        → HoldsFrames (string_headed t f) first new to left
+    string_held t new to put = go f.outer refl marked
+      where
+        go : (fs : List (List ℕ)) → f.outer ≡ fs → AreMarks (mark ∷ reverse left) fs → HoldsFrames (string_headed t f) first new to left
+        go [] o m = absurd m
+        go (g ∷ fs) o m =
+            let d = header t false (length_of (Some (length f.inner))) in
+            let b : IsAtBack (d ++ (f.inner ++ concat f.outer)) first new to =
+            subst (λ n. IsAtBack (header t false (length_of (Some n)) ++ all_octets f) first new to) inner_size (put h.stored) in
+            let same : d ++ (f.inner ++ concat f.outer) ≡ (d ++ (f.inner ++ g)) ++ concat fs =
+            rw o (ap (λ v. d ++ v) (sym (append_assoc f.inner g (concat fs))) ∙ sym (append_assoc d (f.inner ++ g) (concat fs))) in
+            rw o (record { stored = subst (λ v. IsAtBack v first new to) same b; are_marks = m.1 })
+
 -- ---- items
 
-pub piece_begun : (i : Item) → i.sort ≡ Begin → piece_of i ≡ begins i.tag
-piece_begun i e = rw e refl
+pub made_begun : (i : Item) → i.sort ≡ Begin → made_of i ≡ made_beginning i.tag
+made_begun i e = rw e refl
 
-pub pieces_pushed : (items more : List Item) (item : Item) → more ≡ items ++ item ∷ [] → pieces_in more ≡ pieces_in items ++ piece_of item ∷ []
-pieces_pushed items more item e = ap pieces_in e ∙ map-append piece_of items (item ∷ [])
+pub made_begun_string : (i : Item) → i.sort ≡ Whole → made_of i ≡ made_string i.tag
+made_begun_string i e = rw e refl
+
+pub made_part_of : (i : Item) → i.sort ≡ Part → made_of i ≡ made_part i.contents.now
+made_part_of i e = rw e refl
+
+pub made_pushed : (items more : List Item) (item : Item) → more ≡ items ++ item ∷ [] → all_made more ≡ all_made items ++ made_of item ∷ []
+made_pushed items more item e = ap all_made e ∙ map-append made_of items (item ∷ [])
 
 pub nothing_left_of : (w : List ℕ) → length w ≡ 0 → w ≡ []
 nothing_left_of [] l = refl
@@ -259,7 +285,7 @@ nothing_left_of (b ∷ w) l = absurd (omega (arith, l))
 
 -- ---- storing
 
-pub stored_all : (from to : Mode) (octets : List ℕ) (ps : List Piece) (old new s : List ℕ) (len n before : ℕ) → to ≢ Ber → ReadsAs from to octets ps
+pub stored_all : (from to : Mode) (octets : List ℕ) (ps : List Made) (old new s : List ℕ) (len n before : ℕ) → to ≢ Ber → ReadsAs from to octets ps
     → Fit to ps → len ≡ length (all_octets (written to ps)) → IsAtBack (all_octets (written to ps)) (take len old) s n → len ≤ length old
     → new ≡ s ++ drop len old → Converts from to octets 0 old new before len
 stored_all from to octets ps old new s len n before ne r f count b l is =
@@ -270,13 +296,13 @@ stored_all from to octets ps old new s len n before ne r f count b l is =
     converted w (conversion from to octets w ne (made from to octets ps r f))
     (stored refl (omega (arith, l, count)) (is ∙ ap (λ v. v ++ drop len old) same ∙ ap (λ k. w ++ drop k old) count) count)
 
-pub too_small_for_all : (from to : Mode) (octets : List ℕ) (ps : List Piece) (old : List ℕ) (len before : ℕ) → to ≢ Ber → ReadsAs from to octets ps
+pub too_small_for_all : (from to : Mode) (octets : List ℕ) (ps : List Made) (old : List ℕ) (len before : ℕ) → to ≢ Ber → ReadsAs from to octets ps
     → Fit to ps → len ≡ length (all_octets (written to ps)) → length old < len → Converts from to octets 9 old old before len
 too_small_for_all from to octets ps old len before ne r f count l =
     let w = all_octets (written to ps) in
     converted w (conversion from to octets w ne (made from to octets ps r f)) (no_room refl (omega (arith, l, count)) refl count)
 
-pub not_fit : (from to : Mode) (octets : List ℕ) (ps : List Piece) (old : List ℕ) (before : ℕ) → to ≢ Ber → AreWhole from octets → ReadsAs from to octets ps
+pub not_fit : (from to : Mode) (octets : List ℕ) (ps : List Made) (old : List ℕ) (before : ℕ) → to ≢ Ber → AreWhole from octets → ReadsAs from to octets ps
     → (Fit to ps → ⊥) → Converts from to octets 10 old old before before
 not_fit from to octets ps old before ne whole r never =
     become_nothing refl whole (λ w c. not_made from to octets ps ne r never w (rewritten from to octets w ne c)) refl refl

@@ -18,5 +18,6 @@ pub mod Identifiers
 pub mod PiecesRead
 pub mod PiecesBecome
 pub mod PiecesWritten
+pub mod Segments
 pub mod Passing
 pub mod Converting

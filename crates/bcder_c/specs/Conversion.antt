@@ -1,12 +1,13 @@
 -- Values in other rules: what each becomes in CER and in DER (ITU-T X.690, 8.1.3, 9.1, 9.2, 10.1, 10.2, 11.1, 11.2.1).
 use Rattle.std.specs.Prelude.{◌≡◌, ℕ, Bool, ⊤, ◌||◌, ◌==◌, if◌then◌else◌, List, [], ◌∷◌}
 use Rattle.std.specs.Int.{is_in_range}
+use Rattle.std.specs.List.{concat}
 use Rattle.bcder.specs.declared.mode.Mode.{Mode}
 use Rattle.bcder.specs.declared.mode.Mode.TheVariants.{Ber, Cer, Der}
 use Rattle.bcder.specs.x690.BitString.{BitShape}
 use Rattle.bcder.specs.x690.Encoding.{AreEncodings}
 use Rattle.bcder.specs.x690.Identifier.{Class, universal, application, context_specific, private, Tag}
-use Rattle.bcder.specs.x690.OctetString.{MayBeWhole}
+use Rattle.bcder.specs.x690.OctetString.{MayBeWhole, AreSegments, segments_of}
 use Rattle.bcder.specs.x690.Tree.{Tree, primitive, constructed, Trees, no_trees, ◌∷ₜ◌}
 use Rattle.bcder.specs.calls.Captured.{AreWhole}
 use Rattle.bcder_c.specs.declared.convert.Kind.{Kind}
@@ -49,12 +50,19 @@ ContentsBecome mode Bits c d = BitShape mode c × (d ≡ c)
 ContentsBecome mode Text c d = MayBeWhole mode c × (d ≡ c)
 ContentsBecome mode Other c d = d ≡ c
 
+-- 8.7.3, 10.2: the octets of a string that is cut are those of its segments, and DER has them in one piece
+pub record AreJoined (mode : Mode) (k : Kind) (ts : Trees) (d : List ℕ) : Type 0 where
+  pub text : k ≡ Text
+  pub rules : mode ≡ Der
+  pub segments : AreSegments ts
+  pub is : d ≡ concat (segments_of ts)
+
 abbrev mutual
-  -- a value becomes one with the same tag, of the same form; a constructed one is no boolean, and no string that is cut
+  -- a value becomes one with the same tag, of the same form, but a string that is cut is joined; a constructed one is no boolean
   pub Becomes : Mode → Tree → Tree → Type 0
   Becomes mode (primitive t c) (primitive u d) = (u ≡ t) × ContentsBecome mode (kind_of t) c d
   Becomes mode (primitive t c) (constructed u us) = ⊥
-  Becomes mode (constructed t ts) (primitive u d) = ⊥
+  Becomes mode (constructed t ts) (primitive u d) = (u ≡ t) × AreJoined mode (kind_of t) ts d
   Becomes mode (constructed t ts) (constructed u us) = (u ≡ t) × (kind_of t ≡ Other) × Become mode ts us
 
   pub Become : Mode → Trees → Trees → Type 0

@@ -1,19 +1,21 @@
 -- Values as a list of pieces: primitive values, and the beginnings and ends of constructed ones.
 use Rattle.std.specs.List.{concat}
-use Rattle.std.specs.Prelude.{◌≡◌, ℕ, ◌+◌, ◌-◌, ◌*◌, ◌^◌, ◌<◌, ◌≤◌, ⊤, Bool, true, false, List, [], ◌∷◌, ◌++◌, length, take, map, reverse}
+use Rattle.std.specs.Prelude.{◌≡◌, ℕ, ◌+◌, ◌-◌, ◌*◌, ◌^◌, ◌<◌, ◌≤◌, ⊤, zero, suc, Bool, true, false, List, [], ◌∷◌, ◌++◌, length, take, map, reverse}
 use Rattle.std.specs.Prelude.{Option, Some, None, option_map, option_and_then}
 use Rattle.bcder.specs.declared.mode.Mode.{Mode}
 use Rattle.bcder.specs.declared.mode.Mode.TheVariants.{Ber, Cer, Der}
 use Rattle.bcder.specs.x690.Identifier.{Tag}
 use Rattle.bcder.specs.x690.Encoding.{IsHeader, AreEncodings}
+use Rattle.bcder.specs.x690.OctetString.{octet_string_tag}
 use Rattle.bcder.specs.x690.Octets.{constructed_length, header, definite, closing, enclosed}
 use Rattle.bcder.specs.x690.Tree.{Tree, primitive, constructed, Trees, no_trees, ◌∷ₜ◌}
 use Rattle.bcder.specs.calls.ContentsLen.{length_of}
 use Rattle.bcder.specs.steps.Reading.{read_list}
-use Rattle.bcder_c.specs.declared.convert.Kind.TheVariants.{Other}
+use Rattle.bcder_c.specs.declared.convert.Kind.{Kind}
+use Rattle.bcder_c.specs.declared.convert.Kind.TheVariants.{Boolean, Bits, Text, Other}
 use Rattle.bcder_c.specs.declared.convert.Item.{Item}
 use Rattle.bcder_c.specs.declared.convert.Sort.{Sort}
-use Rattle.bcder_c.specs.declared.convert.Sort.TheVariants.{Value, Begin, End}
+use Rattle.bcder_c.specs.declared.convert.Sort.TheVariants.{Value, Begin, End, Whole, Part, WholeEnd}
 use Rattle.bcder_c.specs.Conversion.{kind_of, ContentsBecome, Become}
 use Rattle.bcder_c.specs.Open.{Open, to_come}
 
@@ -22,17 +24,28 @@ pub data Piece : Type 0 where
   begins : Tag → Piece
   ends : Piece
 
--- the piece that is written of an item in memory
-abbrev pub piece_of : Item → Piece
-piece_of i = of_sort i.sort
-  where
-    of_sort : Sort → Piece
-    of_sort Value = value i.tag i.contents.now
-    of_sort Begin = begins i.tag
-    of_sort End = ends
+-- what is written of an item in memory; the octets of a string that was cut are parts, between its beginning and its end
+pub data Made : Type 0 where
+  made_value : Tag → List ℕ → Made
+  made_beginning : Tag → Made
+  made_end : Made
+  made_string : Tag → Made
+  made_part : List ℕ → Made
+  made_string_end : Made
 
-abbrev pub pieces_in : List Item → List Piece
-pieces_in items = map piece_of items
+abbrev pub made_of : Item → Made
+made_of i = of_sort i.sort
+  where
+    of_sort : Sort → Made
+    of_sort Value = made_value i.tag i.contents.now
+    of_sort Begin = made_beginning i.tag
+    of_sort End = made_end
+    of_sort Whole = made_string i.tag
+    of_sort Part = made_part i.contents.now
+    of_sort WholeEnd = made_string_end
+
+abbrev pub all_made : List Item → List Made
+all_made items = map made_of items
 
 -- the piece that a header and the octets behind it are
 abbrev pub piece_read : Tag → Bool → List ℕ → Piece
@@ -71,43 +84,73 @@ before_all ps r = option_map (λ qs. ps ++ qs) r
 
 -- ---- what they become in CER or DER
 
-abbrev pub PieceBecomes : Mode → Piece → Piece → Type 0
-PieceBecomes mode (value t c) (value u d) = (u ≡ t) × ContentsBecome mode (kind_of t) c d
-PieceBecomes mode (value t c) (begins u) = ⊥
-PieceBecomes mode (value t c) ends = ⊥
-PieceBecomes mode (begins t) (value u d) = ⊥
-PieceBecomes mode (begins t) (begins u) = (u ≡ t) × (kind_of t ≡ Other)
-PieceBecomes mode (begins t) ends = ⊥
-PieceBecomes mode ends (value u d) = ⊥
-PieceBecomes mode ends (begins u) = ⊥
-PieceBecomes mode ends ends = ⊤
+-- the beginning of a constructed value with a tag of this kind
+abbrev pub BeginningBecomes : Mode → Kind → Tag → Made → ℕ → Type 0
+BeginningBecomes mode Boolean t q m = ⊥
+BeginningBecomes mode Bits t q m = ⊥
+BeginningBecomes mode Text t q m = (mode ≡ Der) × (q ≡ made_string t) × (m ≡ 1)
+BeginningBecomes mode Other t q m = (q ≡ made_beginning t) × (m ≡ 0)
 
-abbrev pub PiecesBecome : Mode → List Piece → List Piece → Type 0
-PiecesBecome mode [] [] = ⊤
-PiecesBecome mode [] (q ∷ qs) = ⊥
-PiecesBecome mode (p ∷ ps) [] = ⊥
-PiecesBecome mode (p ∷ ps) (q ∷ qs) = PieceBecomes mode p q × PiecesBecome mode ps qs
+-- a piece inside n open values of a string that is cut, which is one of them, becomes q, and m of these are open behind it
+abbrev pub PieceBecomes : Mode → ℕ → Piece → Made → ℕ → Type 0
+PieceBecomes mode zero (value t c) q m = (d : List ℕ) × ContentsBecome mode (kind_of t) c d × (q ≡ made_value t d) × (m ≡ 0)
+PieceBecomes mode zero (begins t) q m = BeginningBecomes mode (kind_of t) t q m
+PieceBecomes mode zero ends q m = (q ≡ made_end) × (m ≡ 0)
+PieceBecomes mode (suc n) (value t c) q m = (t ≡ octet_string_tag) × (q ≡ made_part c) × (m ≡ suc n)
+PieceBecomes mode (suc n) (begins t) q m = (t ≡ octet_string_tag) × (q ≡ made_part []) × (m ≡ suc (suc n))
+PieceBecomes mode (suc zero) ends q m = (q ≡ made_string_end) × (m ≡ 0)
+PieceBecomes mode (suc (suc n)) ends q m = (q ≡ made_part []) × (m ≡ suc n)
 
--- from the octets x inside the open values os to y inside ps a piece was passed, which becomes q
-pub record PassesOne (from to : Mode) (os : List Open) (x : List ℕ) (ps : List Open) (y : List ℕ) (q : Piece) : Type 0 where
+abbrev pub PiecesBecome : Mode → ℕ → List Piece → List Made → ℕ → Type 0
+PiecesBecome mode n [] [] m = m ≡ n
+PiecesBecome mode n [] (q ∷ qs) m = ⊥
+PiecesBecome mode n (p ∷ ps) [] m = ⊥
+PiecesBecome mode n (p ∷ ps) (q ∷ qs) m = (k : ℕ) × PieceBecomes mode n p q k × PiecesBecome mode k ps qs m
+
+-- from the octets x inside the open values os to y inside ps a piece was passed, which becomes q; n and then m are in a string that is cut
+pub record PassesOne (from to : Mode) (n : ℕ) (os : List Open) (x : List ℕ) (m : ℕ) (ps : List Open) (y : List ℕ) (q : Made) : Type 0 where
   pub piece : Piece
   pub same : pieces_left from os x ≡ before_all (piece ∷ []) (pieces_left from ps y)
-  pub becomes : PieceBecomes to piece q
+  pub becomes : PieceBecomes to n piece q m
   pub smaller : length (to_come ps y) * 2 + length ps < length (to_come os x) * 2 + length os
 
 -- the octets to come aren't the rest of values; or a piece is next that becomes nothing
-pub data PassesNone (from to : Mode) (os : List Open) (x : List ℕ) : Type 0 where
-  no_rest : pieces_left from os x ≡ None → PassesNone from to os x
+pub data PassesNone (from to : Mode) (n : ℕ) (os : List Open) (x : List ℕ) : Type 0 where
+  no_rest : pieces_left from os x ≡ None → PassesNone from to n os x
   one_is_nothing : (p : Piece) (r : Option (List Piece)) → pieces_left from os x ≡ before_all (p ∷ []) r
-      → ((q : Piece) → PieceBecomes to p q → ⊥) → PassesNone from to os x
+      → ((q : Made) (m : ℕ) → PieceBecomes to n p q m → ⊥) → PassesNone from to n os x
 
--- octets are values that become others, which are these pieces
-pub record ReadsAs (from to : Mode) (w : List ℕ) (ps : List Piece) : Type 0 where
+-- the parts of a string that is cut
+abbrev mutual
+  pub parts : Tree → List Made
+  parts (primitive t c) = made_part c ∷ []
+  parts (constructed t ts) = made_part [] ∷ (parts_of ts ++ made_part [] ∷ [])
+
+  pub parts_of : Trees → List Made
+  parts_of no_trees = []
+  parts_of (t ∷ₜ ts) = parts t ++ parts_of ts
+
+-- what is written of a value that becomes another
+abbrev mutual
+  pub makes : Tree → Tree → List Made
+  makes (primitive t c) (primitive u d) = made_value u d ∷ []
+  makes (primitive t c) (constructed u us) = []
+  makes (constructed t ts) (primitive u d) = made_string u ∷ (parts_of ts ++ made_string_end ∷ [])
+  makes (constructed t ts) (constructed u us) = made_beginning u ∷ (all_make ts us ++ made_end ∷ [])
+
+  pub all_make : Trees → Trees → List Made
+  all_make no_trees no_trees = []
+  all_make no_trees (u ∷ₜ us) = []
+  all_make (t ∷ₜ ts) no_trees = []
+  all_make (t ∷ₜ ts) (u ∷ₜ us) = makes t u ++ all_make ts us
+
+-- octets are values that become others, and this is written of them
+pub record ReadsAs (from to : Mode) (w : List ℕ) (qs : List Made) : Type 0 where
   pub read : Trees
   pub encode : AreEncodings from read w
   pub trees : Trees
   pub become : Become to read trees
-  pub are : ps ≡ pieces_of trees
+  pub are : qs ≡ all_make read trees
 
 abbrev pub ReadsAsNothing : Mode → Mode → List ℕ → Type 0
 ReadsAsNothing from to w = (ts us : Trees) → AreEncodings from ts w → Become to ts us → ⊥
@@ -139,15 +182,29 @@ headed mode t f = record { inner = header_before mode t f.inner f.outer; outer =
 abbrev pub ended : Mode → Frames → Frames
 ended mode f = record { inner = []; outer = (closing mode ++ f.inner) ∷ f.outer }
 
--- a piece in front of what is written
-abbrev pub with_piece : Mode → Piece → Frames → Frames
-with_piece mode (value t c) f = in_front (definite t false c) f
-with_piece mode (begins t) f = headed mode t f
-with_piece mode ends f = ended mode f
+-- the same of a string, which is primitive
+abbrev pub string_before : Tag → List ℕ → List (List ℕ) → List ℕ
+string_before t a [] = a
+string_before t a (b ∷ fs) = header t false (length_of (Some (length a))) ++ (a ++ b)
 
-abbrev pub written : Mode → List Piece → Frames
+abbrev pub string_headed : Tag → Frames → Frames
+string_headed t f = record { inner = string_before t f.inner f.outer; outer = behind_first f.outer }
+
+abbrev pub string_ended : Frames → Frames
+string_ended f = record { inner = []; outer = f.inner ∷ f.outer }
+
+-- an item in front of what is written
+abbrev pub with_made : Mode → Made → Frames → Frames
+with_made mode (made_value t c) f = in_front (definite t false c) f
+with_made mode (made_beginning t) f = headed mode t f
+with_made mode made_end f = ended mode f
+with_made mode (made_string t) f = string_headed t f
+with_made mode (made_part c) f = in_front c f
+with_made mode made_string_end f = string_ended f
+
+abbrev pub written : Mode → List Made → Frames
 written mode [] = record { inner = []; outer = [] }
-written mode (p ∷ ps) = with_piece mode p (written mode ps)
+written mode (q ∷ qs) = with_made mode q (written mode qs)
 
 -- all octets that are written
 abbrev pub all_octets : Frames → List ℕ
@@ -163,15 +220,18 @@ abbrev pub AreThere : List (List ℕ) → Type 0
 AreThere [] = ⊥
 AreThere (f ∷ fs) = ⊤
 
--- a piece can be written in front of others: its length has room, and a beginning has an end
-abbrev pub FitsBefore : Mode → Piece → Frames → Type 0
-FitsBefore mode (value t c) f = length c < 2 ^ 32
-FitsBefore mode (begins t) f = LengthFits mode (length f.inner) × AreThere f.outer
-FitsBefore mode ends f = ⊤
+-- an item can be written in front of others: its length has room, and a beginning has an end
+abbrev pub FitsBefore : Mode → Made → Frames → Type 0
+FitsBefore mode (made_value t c) f = length c < 2 ^ 32
+FitsBefore mode (made_beginning t) f = LengthFits mode (length f.inner) × AreThere f.outer
+FitsBefore mode made_end f = ⊤
+FitsBefore mode (made_string t) f = (length f.inner < 2 ^ 32) × AreThere f.outer
+FitsBefore mode (made_part c) f = ⊤
+FitsBefore mode made_string_end f = ⊤
 
-abbrev pub Fit : Mode → List Piece → Type 0
+abbrev pub Fit : Mode → List Made → Type 0
 Fit mode [] = ⊤
-Fit mode (p ∷ ps) = FitsBefore mode p (written mode ps) × Fit mode ps
+Fit mode (q ∷ qs) = FitsBefore mode q (written mode qs) × Fit mode qs
 
 -- ---- in memory
 

@@ -9,7 +9,7 @@ ghost use Rattle.bcder.specs.x690.Octets.{closing, constructed_length};
 ghost use Rattle.bcder.specs.x690.Octets.{definite, definite_length, header};
 ghost use Rattle.bcder_c.specs.Pieces.{Fit, FitsBefore, Frames, HoldsFrames, IsAtBack};
 ghost use Rattle.bcder_c.specs.Pieces.{LengthFits, all_octets};
-ghost use Rattle.bcder_c.specs.Pieces.{piece_of, pieces_in, with_piece, written};
+ghost use Rattle.bcder_c.specs.Pieces.{made_of, all_made, with_made, written};
 ghost use Rattle.bcder_c.specs.Status.{no_memory};
 
 use crate::convert::{Item, Sort};
@@ -222,14 +222,14 @@ fn put(
     requires { at.old ≤ 2 ^ 62 }
     ensures put { OnOk result ((f : Frames) (first : List ℕ)
         → HoldsFrames f first buffer.old at.old marks.old.items
-        → HoldsFrames (with_piece mode (piece_of item.now) f) first
+        → HoldsFrames (with_made mode (made_of item.now) f) first
         buffer.new at.new marks.new.items) }
     ensures fits { OnOk result ((f : Frames) (first : List ℕ)
         → HoldsFrames f first buffer.old at.old marks.old.items
-        → FitsBefore mode (piece_of item.now) f) }
+        → FitsBefore mode (made_of item.now) f) }
     ensures none { IfErr result (λ status. status ≢ no_memory → (f : Frames) (first : List ℕ)
         → HoldsFrames f first buffer.old at.old marks.old.items
-        → FitsBefore mode (piece_of item.now) f → ⊥) }
+        → FitsBefore mode (made_of item.now) f → ⊥) }
 {
     match item.sort {
         Sort::Value => {
@@ -256,6 +256,30 @@ fn put(
             }
             Ok(())
         }
+        Sort::Whole => {
+            let Some(mark) = marks.pop() else {
+                return Err(NOT_CONVERTED);
+            };
+            let len = at.saturating_sub(mark);
+            if len > MOST {
+                return Err(NOT_CONVERTED);
+            }
+            put_header(buffer, at, item.tag, false, len);
+            Ok(())
+        }
+        Sort::Part => {
+            if item.contents.len() > TOO_MANY {
+                return Err(NO_MEMORY);
+            }
+            prepend(buffer, at, item.contents);
+            Ok(())
+        }
+        Sort::WholeEnd => {
+            if marks.push(*at).is_err() {
+                return Err(NO_MEMORY);
+            }
+            Ok(())
+        }
     }
 }
 
@@ -267,11 +291,11 @@ pub(crate) fn write(
     items: &[Item<'_>],
     buffer: &mut [u8],
 ) -> Result<usize, u8>
-    ensures fit { OnOk result (Fit mode (pieces_in items.now)) }
-    ensures stored { IfOk result (λ n. IsAtBack (all_octets (written mode (pieces_in items.now)))
+    ensures fit { OnOk result (Fit mode (all_made items.now)) }
+    ensures stored { IfOk result (λ n. IsAtBack (all_octets (written mode (all_made items.now)))
         buffer.old buffer.new n) }
     ensures none { IfErr result
-        (λ status. status ≢ no_memory → Fit mode (pieces_in items.now) → ⊥) }
+        (λ status. status ≢ no_memory → Fit mode (all_made items.now) → ⊥) }
 {
     let mut marks: Vec<usize> = Vec::new(alloc);
     let mut at = 0;

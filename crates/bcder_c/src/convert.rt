@@ -4,7 +4,7 @@
 //! of items: primitive values, and the beginnings and ends of constructed ones. The list is written
 //! from its end, so that the length of a value is known when its header is written. This is done
 //! twice, the first time to count.
-ghost use Rattle.std.specs.Prelude.{◌≡◌, ◌≢◌, ◌<◌, ◌+◌, length, List, ℕ, option_map};
+ghost use Rattle.std.specs.Prelude.{◌≡◌, ◌≢◌, ◌<◌, ◌+◌, ◌^◌, length, List, ℕ, option_map};
 ghost use Rattle.std.specs.Prelude.{IfOk, IfErr, IfSome, IfNone, None, ◌⊎◌};
 ghost use Rattle.bcder.specs.declared.mode.Mode.{Mode as ModeValue};
 ghost use Rattle.bcder.specs.steps.Reading.{read_tree};
@@ -12,8 +12,8 @@ ghost use Rattle.bcder_c.specs.Conversion.{ContentsBecome, Converts};
 ghost use Rattle.bcder_c.specs.Conversion.{kind_of as kind_meant};
 ghost use Rattle.bcder_c.specs.Next.{IsDue};
 ghost use Rattle.bcder_c.specs.Open.{open_values};
-ghost use Rattle.bcder_c.specs.Pieces.{BeginsPiece, PassesOne, PassesNone, Piece, PieceBecomes};
-ghost use Rattle.bcder_c.specs.Pieces.{ReadsAs, ReadsAsNothing, piece_of, piece_read, pieces_in};
+ghost use Rattle.bcder_c.specs.Pieces.{BeginsPiece, PassesOne, PassesNone, Made, PieceBecomes};
+ghost use Rattle.bcder_c.specs.Pieces.{ReadsAs, ReadsAsNothing, made_of, piece_read, all_made, ends};
 ghost use Rattle.bcder_c.specs.Rules.{AreRules, AreUnknown};
 ghost use Rattle.bcder_c.specs.Status.{no_memory, unknown_rules};
 ghost use Rattle.bcder.specs.calls.Captured.{AreWhole};
@@ -23,7 +23,7 @@ use crate::backwards::write;
 use crate::bits::is_bit_string;
 use crate::rules::mode_of;
 use crate::status::{ABSENT, DONE, NO_MEMORY, NOT_CONVERTED, TOO_SMALL, UNKNOWN_RULES};
-use crate::string::store_whole;
+use crate::string::{is_octet_string, store_whole};
 use crate::values::are_values;
 use crate::walk::close;
 use bcder::plain::front_at;
@@ -50,6 +50,15 @@ pub(crate) enum Sort {
 
     /// Its end.
     End,
+
+    /// The beginning of a string that was cut and is joined.
+    Whole,
+
+    /// Octets of such a string.
+    Part,
+
+    /// Its end.
+    WholeEnd,
 }
 
 /// A primitive value as it is written, or the beginning or the end of a constructed one.
@@ -58,7 +67,7 @@ pub(crate) struct Item<'a> {
     pub(crate) sort: Sort,
     pub(crate) tag: Tag,
 
-    /// The contents octets of a primitive value.
+    /// The contents octets of a primitive value, or the octets of a part.
     pub(crate) contents: &'a [u8],
 }
 
@@ -77,6 +86,9 @@ struct Begun<'a> {
 
 /// The contents octets of the boolean that is true (X.690, 11.1).
 const ALL_ONES: &[u8] = &[0xFF];
+
+/// No octets.
+const NOTHING: &[u8] = &[];
 
 /// Returns what a type is to the rules, if the tag tells it.
 fn kind_of(tag: Tag) -> Kind
@@ -136,32 +148,135 @@ fn contents_in(to: Mode, kind: Kind, contents: &[u8]) -> Option<&[u8]>
     }
 }
 
-/// Returns the item that a value begins with in CER or DER.
-fn item_of<'a>(to: Mode, tag: Tag, constructed: bool, contents: &'a [u8]) -> Option<Item<'a>>
-    ensures some { IfSome result
-        (λ i. PieceBecomes to (piece_read tag constructed contents.now) (piece_of i)) }
-    ensures none { IfNone result
-        ((q : Piece) → PieceBecomes to (piece_read tag constructed contents.now) q → ⊥) }
+/// Returns the item that a value begins with in CER or DER, and how many values of a string that is
+/// cut are open behind it, for a value that is in no such string.
+fn item_outside<'a>(
+    to: Mode,
+    tag: Tag,
+    constructed: bool,
+    contents: &'a [u8],
+) -> Option<(Item<'a>, usize)>
+    ensures some { IfSome result (λ r. PieceBecomes to 0
+        (piece_read tag constructed contents.now) (made_of r.0) r.1) }
+    ensures none { IfNone result ((q : Made) (m : ℕ)
+        → PieceBecomes to 0 (piece_read tag constructed contents.now) q m → ⊥) }
 {
     let kind = kind_of(tag);
     if constructed {
         return match kind {
-            Kind::Other => Some(Item {
-                sort: Sort::Begin,
-                tag,
-                contents,
-            }),
+            Kind::Other => Some((
+                Item {
+                    sort: Sort::Begin,
+                    tag,
+                    contents,
+                },
+                0,
+            )),
+            Kind::Text => {
+                if to != Mode::Der {
+                    return None;
+                }
+                Some((
+                    Item {
+                        sort: Sort::Whole,
+                        tag,
+                        contents,
+                    },
+                    1,
+                ))
+            }
             _ => None,
         };
     }
     match contents_in(to, kind, contents) {
-        Some(contents) => Some(Item {
-            sort: Sort::Value,
-            tag,
-            contents,
-        }),
+        Some(contents) => Some((
+            Item {
+                sort: Sort::Value,
+                tag,
+                contents,
+            },
+            0,
+        )),
         None => None,
     }
+}
+
+/// Does the same for a segment (X.690, 8.7.3), inside open values of a string that is cut.
+fn item_inside<'a>(
+    to: Mode,
+    inside: usize,
+    tag: Tag,
+    constructed: bool,
+    contents: &'a [u8],
+) -> Option<(Item<'a>, usize)>
+    requires inside { 0 < inside }
+    requires room { inside + 1 < 2 ^ 64 }
+    ensures some { IfSome result (λ r. PieceBecomes to inside
+        (piece_read tag constructed contents.now) (made_of r.0) r.1) }
+    ensures none { IfNone result ((q : Made) (m : ℕ)
+        → PieceBecomes to inside (piece_read tag constructed contents.now) q m → ⊥) }
+{
+    if !is_octet_string(tag) {
+        return None;
+    }
+    if constructed {
+        return Some((
+            Item {
+                sort: Sort::Part,
+                tag,
+                contents: NOTHING,
+            },
+            inside + 1,
+        ));
+    }
+    Some((
+        Item {
+            sort: Sort::Part,
+            tag,
+            contents,
+        },
+        inside,
+    ))
+}
+
+/// Does the same for any value.
+fn item_of<'a>(
+    to: Mode,
+    inside: usize,
+    tag: Tag,
+    constructed: bool,
+    contents: &'a [u8],
+) -> Option<(Item<'a>, usize)>
+    requires { inside + 1 < 2 ^ 64 }
+    ensures some { IfSome result (λ r. PieceBecomes to inside
+        (piece_read tag constructed contents.now) (made_of r.0) r.1) }
+    ensures none { IfNone result ((q : Made) (m : ℕ)
+        → PieceBecomes to inside (piece_read tag constructed contents.now) q m → ⊥) }
+{
+    if inside == 0 {
+        return item_outside(to, tag, constructed, contents);
+    }
+    item_inside(to, inside, tag, constructed, contents)
+}
+
+/// Returns the item for the end of a value, and how many values of a string that is cut are open
+/// behind it.
+fn end_of(inside: usize) -> (Item<'static>, usize)
+    ensures { (to : ModeValue) → PieceBecomes to inside ends (made_of result.0) result.1 }
+{
+    let sort = if inside == 0 {
+        Sort::End
+    } else if inside == 1 {
+        Sort::WholeEnd
+    } else {
+        Sort::Part
+    };
+    let item = Item {
+        sort,
+        tag: Tag::END_OF_VALUE,
+        contents: NOTHING,
+    };
+    (item, inside.saturating_sub(1))
 }
 
 /// Reads the header of the next value.
@@ -196,33 +311,40 @@ fn begin(mode: Mode, rest: &[u8]) -> Option<Begun<'_>>
 }
 
 /// Passes the header of the next value, and the contents if the value is primitive, and returns
-/// what it becomes, and the octets that are next to come.
+/// what it becomes, how many values of a string that is cut are open then, and the octets that are
+/// next to come.
 fn enter<'a>(
     from: Mode,
     to: Mode,
+    inside: usize,
     opened: &mut Vec<Option<&'a [u8]>>,
     rest: &'a [u8],
-) -> Result<(Item<'a>, &'a [u8]), u8>
+) -> Result<(Item<'a>, usize, &'a [u8]), u8>
     requires { IsDue from (open_values opened.old.items) rest.now }
-    ensures passed { IfOk result (λ r. PassesOne from to (open_values opened.old.items) rest.now
-        (open_values opened.new.items) r.1.now (piece_of r.0)) }
+    ensures passed { IfOk result (λ r. PassesOne from to
+        inside (open_values opened.old.items) rest.now
+        r.1 (open_values opened.new.items) r.2.now (made_of r.0)) }
     ensures none { IfErr result (λ status. status ≢ no_memory
-        → PassesNone from to (open_values opened.old.items) rest.now) }
+        → PassesNone from to inside (open_values opened.old.items) rest.now) }
 {
+    if inside == usize::MAX {
+        return Err(NO_MEMORY);
+    }
     let Some(begun) = begin(from, rest) else {
         return Err(NOT_CONVERTED);
     };
-    let Some(item) = item_of(to, begun.tag, begun.constructed, begun.contents) else {
+    let Some((item, level)) = item_of(to, inside, begun.tag, begun.constructed, begun.contents)
+    else {
         return Err(NOT_CONVERTED);
     };
     if begun.constructed {
         if opened.push(begun.behind).is_err() {
             return Err(NO_MEMORY);
         }
-        return Ok((item, begun.contents));
+        return Ok((item, level, begun.contents));
     }
     match begun.behind {
-        Some(behind) => Ok((item, behind)),
+        Some(behind) => Ok((item, level, behind)),
         None => Err(NOT_CONVERTED),
     }
 }
@@ -231,48 +353,48 @@ fn enter<'a>(
 fn next<'a>(
     from: Mode,
     to: Mode,
+    inside: usize,
     opened: &mut Vec<Option<&'a [u8]>>,
     rest: &'a [u8],
-) -> Result<(Item<'a>, &'a [u8]), u8>
+) -> Result<(Item<'a>, usize, &'a [u8]), u8>
     requires { 0 < opened.old.len + length rest.now }
-    ensures passed { IfOk result (λ r. PassesOne from to (open_values opened.old.items) rest.now
-        (open_values opened.new.items) r.1.now (piece_of r.0)) }
+    ensures passed { IfOk result (λ r. PassesOne from to
+        inside (open_values opened.old.items) rest.now
+        r.1 (open_values opened.new.items) r.2.now (made_of r.0)) }
     ensures none { IfErr result (λ status. status ≢ no_memory
-        → PassesNone from to (open_values opened.old.items) rest.now) }
+        → PassesNone from to inside (open_values opened.old.items) rest.now) }
 {
     let Some(&innermost) = opened.last() else {
-        return enter(from, to, opened, rest);
+        return enter(from, to, inside, opened, rest);
     };
     let mut at = 0;
     match close(from, innermost, rest, &mut at) {
         Some(after) => {
             let _ended = opened.pop();
-            let item = Item {
-                sort: Sort::End,
-                tag: Tag::END_OF_VALUE,
-                contents: after,
-            };
-            Ok((item, after))
+            let (item, level) = end_of(inside);
+            Ok((item, level, after))
         }
-        None => enter(from, to, opened, rest),
+        None => enter(from, to, inside, opened, rest),
     }
 }
 
 /// Reads values into items, as they are in CER or DER.
 fn read<'a>(alloc: Global, from: Mode, to: Mode, octets: &'a [u8]) -> Result<Vec<Item<'a>>, u8>
-    ensures read { IfOk result (λ v. ReadsAs from to octets.now (pieces_in v.items)) }
+    ensures read { IfOk result (λ v. ReadsAs from to octets.now (all_made v.items)) }
     ensures none { IfErr result
         (λ status. status ≢ no_memory → ReadsAsNothing from to octets.now) }
 {
     let mut items: Vec<Item<'a>> = Vec::new(alloc);
     let mut opened: Vec<Option<&'a [u8]>> = Vec::new(alloc);
+    let mut inside = 0;
     let mut rest = octets;
     while !opened.is_empty() || !rest.is_empty() {
-        match next(from, to, &mut opened, rest) {
-            Ok((item, after)) => {
+        match next(from, to, inside, &mut opened, rest) {
+            Ok((item, level, after)) => {
                 if items.push(item).is_err() {
                     return Err(NO_MEMORY);
                 }
+                inside = level;
                 rest = after;
             }
             Err(status) => return Err(status),

@@ -31,7 +31,7 @@ struct Piece<'a> {
     rest: &'a [u8],
 }
 
-fn is_octet_string(tag: Tag) -> bool
+pub(crate) fn is_octet_string(tag: Tag) -> bool
     ensures { result ≡ is_of_string tag }
 {
     tag.is_universal() && tag.number() == 4

@@ -12,4 +12,4 @@ returns-in-Some-close-clause-passed c =
     let p : c.pop-ended.new.self.items ≡ take (length c.args.opened.now.items - 1) c.args.opened.now.items = search rules in
     let q : open_values c.args.opened.now.items ≡ option_map (λ s. s.now) c.in-Some.field-0.now ∷ open_values c.pop-ended.new.self.items =
     innermost_first c.args.opened.now.items _ _ refl g ∙ ap (λ k. option_map (λ s. s.now) c.in-Some.field-0.now ∷ open_values k) (sym p) in
-    passes_end _ _ _ _ _ _ _ _ o q c.in-Some-close.ensures.1
+    passes_end _ _ _ _ _ _ _ _ _ _ _ o q c.in-Some-close.ensures.1 (c.end_of-item.ensures _)
