@@ -3,10 +3,10 @@
  * Every function stores its result where it returns BCDER_OK. bcder_value, bcder_check,
  * bcder_check_within and bcder_check_on store what was passed in every case but
  * BCDER_UNKNOWN_RULES; all others store nothing unless they return BCDER_OK, or `size` alone with
- * BCDER_TOO_SMALL, but for bcder_convert when memory runs out. No octet outside (data, len) is read,
- * and each call ends. Nothing is kept between calls, so any number of threads may call. NULL with
- * length 0 is no octets; no other pointer may be NULL. Where a result is stored must not overlap the
- * octets.
+ * BCDER_TOO_SMALL, but for bcder_convert when memory runs out. No octet outside (data, len) is
+ * read, and each call ends. Nothing is kept between calls, so any number of threads may call. NULL
+ * with length 0 is no octets; no other pointer may be NULL. Where a result is stored must not
+ * overlap the octets.
  * docs/C.md says more. */
 #ifndef BCDER_H
 #define BCDER_H
@@ -134,22 +134,23 @@ uint8_t bcder_ia5(const uint8_t *data, size_t len);                       /* IA5
 uint8_t bcder_string(uint8_t rules, bool constructed, const uint8_t *data, size_t len, uint8_t *out, size_t room,
                      size_t *size);
 
-/* The values that octets encode in the rules `from`, encoded in the rules `to`. They go to `out`, as
- * those of bcder_string do. Time and memory are linear in `len`, at any depth; memory by malloc.
+/* The values that octets encode in the rules `from`, encoded in the rules `to`. They go to `out`,
+ * as those of bcder_string do. Time and memory are linear in `len`, at any depth; memory by malloc.
  *
- * To BER the octets stay as they are. To CER and DER headers are written anew, and the octet of a
- * boolean that is true becomes FF; contents octets of other primitive values stay. To DER a string that
- * is cut into segments is joined, in whichever way BER allows it to be cut. ABSENT: the octets are no
- * values in `from`. NOT_CONVERTED: they are, but to CER or DER one of them is
+ * To BER the octets stay as they are. To CER and DER headers are written anew, the octet of a
+ * boolean that is true becomes FF, and strings get the form of `to`: DER has them in one piece, CER
+ * cuts those of more than 1000 octets. They may be cut before in any way that BER allows. All other
+ * contents octets stay. ABSENT: the octets are no values in `from`. NOT_CONVERTED: they are, but to
+ * CER or DER one of them is
  *   - a boolean that is constructed, or that hasn't one octet,
- *   - a bit string that is constructed, has unused bits that aren't zero, or isn't one by its octets,
- *   - a constructed string with values in it that are no OCTET STRINGs,
- *   - to CER, a string that is cut into segments, or that has to be, with more than 1000 octets,
+ *   - a bit string that is constructed, or has unused bits that aren't zero, or isn't one by its
+ *     octets, or to CER has more than 1000 of them,
+ *   - a constructed string with values inside that are no OCTET STRINGs,
  *   - to DER, a value whose contents octets would be 2^32 or more.
- * These types are known by their universal tags alone. So the result is a list of encodings in `to`,
- * but not promised are the order of the values in a SET or a SET OF, that DEFAULT values are left out,
- * and the form of strings and the octet of booleans under other tags, which stay as they are.
- * After NO_MEMORY `out` may have changed. */
+ * These types are known by their universal tags alone. So the result is a list of encodings in
+ * `to`, but not promised are the order of the values in a SET or a SET OF, that DEFAULT values are
+ * left out, and the form of strings and booleans under other tags, which stay as they are. After
+ * NO_MEMORY `out` may have changed. */
 uint8_t bcder_convert(uint8_t from, uint8_t to, const uint8_t *data, size_t len, uint8_t *out,
                       size_t room, size_t *size);
 

@@ -18,17 +18,6 @@ def one(text, rules=DER):
     return value
 
 
-def holds_cut_string(data, rules):
-    """Returns whether a constructed OCTET STRING is among the values or inside them."""
-    values = list(bcder.values(data, rules))
-    while values:
-        value = values.pop()
-        if value.constructed and value.tag == (Class.UNIVERSAL, 4):
-            return True
-        values += value.children
-    return False
-
-
 class Check(unittest.TestCase):
     def refused(self, text, rules, kind, offset, **more):
         with self.assertRaises(bcder.Error) as found:
@@ -93,6 +82,7 @@ class Convert(unittest.TestCase):
         self.assertEqual(bcder.convert(b"", CER, DER), b"")
         cut = bytes.fromhex("2c80 040161 2403 040162 0400 0000")
         self.assertEqual(bcder.convert(cut, BER), bytes.fromhex("0c02 6162"))
+        self.assertEqual(bcder.convert(cut, BER, CER), bytes.fromhex("0c02 6162"))
 
     def test_refusals(self):
         for text, source, kind in (
@@ -108,7 +98,7 @@ class Convert(unittest.TestCase):
 
     def test_values_of_pyasn1(self):
         """What pyasn1 wrote of each value in BER, CER and DER (crates/documents/data)."""
-        converted = refused = 0
+        converted = 0
         with open(PYASN1, encoding="ascii") as rows:
             for row in rows:
                 if row.startswith("#"):
@@ -119,21 +109,13 @@ class Convert(unittest.TestCase):
                         texts[at] = texts[at - 1]
                 basic, cer, der = map(bytes.fromhex, texts)
                 pairs = [(cer, CER, der, DER), (der, DER, cer, CER)]
-                # pyasn1 writes a SET OF in BER in another order, and strings under another tag in segments
+                # In BER a SET OF is in another order, and strings under another tag are cut.
                 if order == "=" and kind != "implicit":
                     pairs += [(basic, BER, der, DER), (basic, BER, cer, CER)]
                 for data, source, expected, target in pairs:
-                    cut = holds_cut_string(data, source) or holds_cut_string(expected, target)
-                    if target is CER and cut:
-                        with self.assertRaises(bcder.Error) as found:
-                            bcder.convert(data, source, target)
-                        self.assertEqual(found.exception.kind, Kind.NOT_CONVERTED)
-                        refused += 1
-                    else:
-                        self.assertEqual(bcder.convert(data, source, target), expected)
-                        converted += 1
+                    self.assertEqual(bcder.convert(data, source, target), expected)
+                    converted += 1
         self.assertGreater(converted, 1000)
-        self.assertGreater(refused, 10)
 
     def test_a_million_levels(self):
         levels = 1_000_000

@@ -43,6 +43,7 @@ fn values_are_converted() {
     assert_eq!(converted_len(Rules::Der, Rules::Ber, &basic), refused(ErrorKind::Absent, 0));
     let cut = [0x24, 3, 4, 1, 5];
     assert_eq!(convert(Rules::Ber, Rules::Der, &cut, &mut buffer), Ok(&cut[2..]));
+    assert_eq!(convert(Rules::Ber, Rules::Cer, &cut, &mut buffer), Ok(&cut[2..]));
     let bits = [0x23, 4, 3, 2, 0, 5];
     assert_eq!(converted_len(Rules::Ber, Rules::Der, &bits), refused(ErrorKind::NotConverted, 0));
     assert_eq!(converted_len(Rules::Ber, Rules::Ber, &cut), Ok(5));

@@ -17,8 +17,10 @@ use Rattle.bcder_c.specs.declared.convert.Item.{Item}
 use Rattle.bcder_c.specs.declared.convert.Sort.TheVariants.{Begin, Whole, Part}
 use Rattle.bcder_c.specs.declared.convert.Kind.{Kind}
 use Rattle.bcder_c.specs.declared.convert.Kind.TheVariants.{Boolean, Bits, Text, Other}
-use Rattle.bcder_c.specs.Conversion.{kind_of, all_or_none, ContentsBecome, Becomes, Become, AreRewritten, IsConversion, Converts, converted, become_nothing}
-use Rattle.bcder_c.specs.Buffers.{Stores, stored, no_room}
+use Rattle.bcder_c.specs.Conversion.{kind_of, all_or_none, ContentsBecome, Becomes, Become, AreRewritten, IsConversion, Converts, converted, become_nothing, lacking}
+use Rattle.bcder_c.specs.Buffers.{IsStored, Stores, stored, no_room}
+use Rattle.bcder_c.specs.Cutting.{Adds, cut_written, CutFit, StoresWritten, stores, fits_not, lacks, StoresCut, stores_cut, lacks_cut}
+use Rattle.bcder_c.proofs.CutTrees.{made_cut, read_fits}
 use Rattle.bcder_c.specs.Contents.{HoldsString}
 use Rattle.bcder_c.specs.Open.{Open}
 use Rattle.bcder_c.specs.Pieces.{Piece, pieces_of, pieces_left, before_all, Made, made_beginning, made_string, made_part, made_of, all_made, all_make, PiecesBecome}
@@ -121,20 +123,22 @@ module _ (mode : Mode) (items rest : List Item) (first now : List ℕ) (at : ℕ
 
 -- ---- what is written is what the values become
 
-pub made : (from to : Mode) (octets : List ℕ) (qs : List Made) → ReadsAs from to octets qs → Fit to qs
-    → AreRewritten from to octets (all_octets (written to qs))
-made from to octets qs r f =
-    let ends : written to qs ≡ record { inner = all_spelled to r.trees ++ []; outer = [] } =
-    ap (written to) (r.are ∙ sym (append-nil (all_make r.read r.trees))) ∙ all_written to r.read r.trees [] r.become in
-    let is : all_octets (written to qs) ≡ all_spelled to r.trees =
-    ap all_octets ends ∙ append-nil (all_spelled to r.trees ++ []) ∙ append-nil (all_spelled to r.trees) in
-    let fit = all_fit to r.read r.trees [] r.become (subst (Fit to) (r.are ∙ sym (append-nil (all_make r.read r.trees))) f) in
+pub made : (from : Mode) (octets : List ℕ) (qs : List Made) → ReadsAs from Der octets qs → Fit Der qs
+    → AreRewritten from Der octets (all_octets (written Der qs))
+made from octets qs r f =
+    let ends : written Der qs ≡ record { inner = all_spelled Der r.trees ++ []; outer = [] } =
+    ap (written Der) (r.are ∙ sym (append-nil (all_make r.read r.trees))) ∙ all_written Der r.read r.trees [] r.become in
+    let is : all_octets (written Der qs) ≡ all_spelled Der r.trees =
+    ap all_octets ends ∙ append-nil (all_spelled Der r.trees ++ []) ∙ append-nil (all_spelled Der r.trees) in
+    let fit = all_fit Der r.read r.trees [] r.become (subst (Fit Der) (r.are ∙ sym (append-nil (all_make r.read r.trees))) f) in
     record {
       read = r.read;
       encode = r.encode;
-      written = r.trees;
+      joined = r.trees;
       become = r.become;
-      is = subst (AreEncodings to r.trees) (sym is) (all_encode from to r.read r.trees octets r.encode r.become fit.0);
+      written = r.trees;
+      form = refl;
+      is = subst (AreEncodings Der r.trees) (sym is) (all_encode from Der r.read r.trees octets r.encode r.become fit.0);
     }
 
 no_other : (k : Kind) → k ≡ Text → k ≡ Other → ⊥
@@ -148,7 +152,7 @@ contents_once mode Boolean c d e a b =
     first_is : {m n : ℕ} → ◌≡◌ {A = List ℕ} (m ∷ []) (n ∷ []) → m ≡ n
     first_is e = cc
 contents_once mode Bits c d e a b = a.1 ∙ sym b.1
-contents_once mode Text c d e a b = a.1 ∙ sym b.1
+contents_once mode Text c d e a b = a ∙ sym b
 contents_once mode Other c d e a b = a ∙ sym b
 
 mutual
@@ -170,26 +174,22 @@ mutual
   all_once mode (t ∷ₜ ts) (u ∷ₜ us) no_trees a b = absurd b
   all_once mode (t ∷ₜ ts) (u ∷ₜ us) (v ∷ₜ vs) a b = ap₂ (λ x y. x ∷ₜ y) (one_once mode t u v a.0 b.0) (all_once mode ts us vs a.1 b.1)
 
-pub not_made : (from to : Mode) (octets : List ℕ) (qs : List Made) → to ≢ Ber → ReadsAs from to octets qs → (Fit to qs → ⊥) → (w : List ℕ)
-    → AreRewritten from to octets w → ⊥
-not_made from to octets qs ne r never w a =
+not_ber : Der ≢ Ber
+not_ber e = cc
+
+pub not_made : (from : Mode) (octets : List ℕ) (qs : List Made) → ReadsAs from Der octets qs → (Fit Der qs → ⊥) → (w : List ℕ)
+    → AreRewritten from Der octets w → ⊥
+not_made from octets qs r never w a =
     let same : a.read ≡ r.read = one_list from a.read r.read octets a.encode r.encode in
-    let trees : a.written ≡ r.trees = all_once to r.read a.written r.trees (subst (λ ts. Become to ts a.written) same a.become) r.become in
-    let fit : TreesFit to r.trees = subst (TreesFit to) trees (all_are_spelled to ne a.written w a.is).0 in
-    never (subst (Fit to) (append-nil (all_make r.read r.trees) ∙ sym r.are) (all_fit_back to r.read r.trees [] r.become fit tt))
-
-pub conversion : (from to : Mode) (octets w : List ℕ) → to ≢ Ber → AreRewritten from to octets w → IsConversion from to octets w
-conversion from Ber octets w ne a = absurd (ne refl)
-conversion from Cer octets w ne a = a
-conversion from Der octets w ne a = a
-
-pub rewritten : (from to : Mode) (octets w : List ℕ) → to ≢ Ber → IsConversion from to octets w → AreRewritten from to octets w
-rewritten from Ber octets w ne a = absurd (ne refl)
-rewritten from Cer octets w ne a = a
-rewritten from Der octets w ne a = a
+    let joined : a.joined ≡ r.trees = all_once Der r.read a.joined r.trees (subst (λ ts. Become Der ts a.joined) same a.become) r.become in
+    let trees : a.written ≡ r.trees = a.form ∙ joined in
+    let fit : TreesFit Der r.trees = subst (TreesFit Der) trees (all_are_spelled Der not_ber a.written w a.is).0 in
+    never (subst (Fit Der) (append-nil (all_make r.read r.trees) ∙ sym r.are) (all_fit_back Der r.read r.trees [] r.become fit tt))
 
 pub nothing_made : (from to : Mode) (octets : List ℕ) → to ≢ Ber → ReadsAsNothing from to octets → (w : List ℕ) → IsConversion from to octets w → ⊥
-nothing_made from to octets ne none w c = let a = rewritten from to octets w ne c in none a.read a.written a.encode a.become
+nothing_made from Ber octets ne none w a = ne refl
+nothing_made from Cer octets ne none w a = none a.read a.joined a.encode a.become
+nothing_made from Der octets ne none w a = none a.read a.joined a.encode a.become
 
 -- ---- one piece in front of frames
 
@@ -285,27 +285,65 @@ nothing_left_of (b ∷ w) l = absurd (omega (arith, l))
 
 -- ---- storing
 
-pub stored_all : (from to : Mode) (octets : List ℕ) (ps : List Made) (old new s : List ℕ) (len n before : ℕ) → to ≢ Ber → ReadsAs from to octets ps
-    → Fit to ps → len ≡ length (all_octets (written to ps)) → IsAtBack (all_octets (written to ps)) (take len old) s n → len ≤ length old
-    → new ≡ s ++ drop len old → Converts from to octets 0 old new before len
-stored_all from to octets ps old new s len n before ne r f count b l is =
-    let w = all_octets (written to ps) in
+pub stored_all : (mode : Mode) (qs : List Made) (old new s : List ℕ) (len n before : ℕ) → Fit mode qs → len ≡ length (all_octets (written mode qs))
+    → IsAtBack (all_octets (written mode qs)) (take len old) s n → len ≤ length old → new ≡ s ++ drop len old
+    → StoresWritten mode qs 0 old new before len
+stored_all mode qs old new s len n before f count b l is =
+    let w = all_octets (written mode qs) in
     let room : length (take len old) ≡ len = length-take-le len old l in
     let none : length (take len old) - length w ≡ 0 = omega (arith, room, count) in
     let same : s ≡ w = b.back (omega (arith, room, count)) ∙ ap (λ k. take k (take len old) ++ w) none in
-    converted w (conversion from to octets w ne (made from to octets ps r f))
-    (stored refl (omega (arith, l, count)) (is ∙ ap (λ v. v ++ drop len old) same ∙ ap (λ k. w ++ drop k old) count) count)
+    stores f (stored refl (omega (arith, l, count)) (is ∙ ap (λ v. v ++ drop len old) same ∙ ap (λ k. w ++ drop k old) count) count)
 
-pub too_small_for_all : (from to : Mode) (octets : List ℕ) (ps : List Made) (old : List ℕ) (len before : ℕ) → to ≢ Ber → ReadsAs from to octets ps
-    → Fit to ps → len ≡ length (all_octets (written to ps)) → length old < len → Converts from to octets 9 old old before len
-too_small_for_all from to octets ps old len before ne r f count l =
-    let w = all_octets (written to ps) in
-    converted w (conversion from to octets w ne (made from to octets ps r f)) (no_room refl (omega (arith, l, count)) refl count)
+pub too_small_for_all : (mode : Mode) (qs : List Made) (old : List ℕ) (len before : ℕ) → Fit mode qs → len ≡ length (all_octets (written mode qs))
+    → length old < len → StoresWritten mode qs 9 old old before len
+too_small_for_all mode qs old len before f count l = stores f (no_room refl (omega (arith, l, count)) refl count)
 
-pub not_fit : (from to : Mode) (octets : List ℕ) (ps : List Made) (old : List ℕ) (before : ℕ) → to ≢ Ber → AreWhole from octets → ReadsAs from to octets ps
-    → (Fit to ps → ⊥) → Converts from to octets 10 old old before before
-not_fit from to octets ps old before ne whole r never =
-    become_nothing refl whole (λ w c. not_made from to octets ps ne r never w (rewritten from to octets w ne c)) refl refl
+pub only_der : (mode : Mode) → mode ≢ Ber → mode ≢ Cer → mode ≡ Der
+only_der Ber b c = absurd (b refl)
+only_der Cer b c = absurd (c refl)
+only_der Der b c = refl
+
+in_der : (from : Mode) (octets : List ℕ) (qs : List Made) (status : ℕ) (old new : List ℕ) (before n : ℕ) → AreWhole from octets
+    → ReadsAs from Der octets qs → StoresWritten Der qs status old new before n → Converts from Der octets status old new before n
+in_der from octets qs status old new before n whole r (stores f s) = converted (all_octets (written Der qs)) (made from octets qs r f) s
+in_der from octets qs status old new before n whole r (fits_not e never o b) = become_nothing e whole (not_made from octets qs r never) o b
+in_der from octets qs status old new before n whole r (lacks e b) = lacking e b
+
+pub stored_in_der : (from to : Mode) (octets : List ℕ) (qs : List Made) (status : ℕ) (old new : List ℕ) (before n : ℕ) → to ≡ Der → AreWhole from octets
+    → ReadsAs from to octets qs → StoresWritten to qs status old new before n → Converts from to octets status old new before n
+stored_in_der from Ber octets qs status old new before n e whole r s = (let x : Ber ≡ Der = e in absurd cc)
+stored_in_der from Cer octets qs status old new before n e whole r s = (let x : Cer ≡ Der = e in absurd cc)
+stored_in_der from Der octets qs status old new before n e whole r s = in_der from octets qs status old new before n whole r s
+
+all_added : (qs out : List Made) → Adds [] out (cut_written []) (cut_written qs) → (written Cer out ≡ cut_written qs) × Fit Cer out
+unfolding cut_written
+all_added qs out a =
+    let e : out ≡ a.added ++ [] = a.is ∙ sym (append-nil a.added) in
+    (ap (written Cer) e ∙ a.same [] refl, subst (Fit Cer) (sym e) (a.fit [] refl tt))
+
+pub cut_stored : (qs out : List Made) (status : ℕ) (old new : List ℕ) (before n : ℕ) → Adds [] out (cut_written []) (cut_written qs)
+    → StoresWritten Cer out status old new before n → StoresCut qs status old new before n
+cut_stored qs out status old new before n a (stores f s) =
+    stores_cut (subst (λ g. IsStored (all_octets g) status old new n) (all_added qs out a).0 s)
+cut_stored qs out status old new before n a (fits_not e never o b) = absurd (never (all_added qs out a).1)
+cut_stored qs out status old new before n a (lacks e b) = lacks_cut e b
+
+in_cer : (from : Mode) (octets : List ℕ) (qs : List Made) (status : ℕ) (old new : List ℕ) (before n : ℕ) → ReadsAs from Cer octets qs
+    → StoresCut qs status old new before n → Converts from Cer octets status old new before n
+in_cer from octets qs status old new before n r (stores_cut s) = converted (all_octets (cut_written qs)) (made_cut from octets qs r) s
+in_cer from octets qs status old new before n r (lacks_cut e b) = lacking e b
+
+pub stored_in_cer : (from to : Mode) (octets : List ℕ) (qs : List Made) (status : ℕ) (old new : List ℕ) (before n : ℕ) → to ≡ Cer
+    → ReadsAs from to octets qs → StoresCut qs status old new before n → Converts from to octets status old new before n
+stored_in_cer from Ber octets qs status old new before n e r s = (let x : Ber ≡ Cer = e in absurd cc)
+stored_in_cer from Cer octets qs status old new before n e r s = in_cer from octets qs status old new before n r s
+stored_in_cer from Der octets qs status old new before n e r s = (let x : Der ≡ Cer = e in absurd cc)
+
+pub read_fits_in : (from to : Mode) (octets : List ℕ) (qs : List Made) → to ≡ Cer → ReadsAs from to octets qs → CutFit qs
+read_fits_in from Ber octets qs e r = (let x : Ber ≡ Cer = e in absurd cc)
+read_fits_in from Cer octets qs e r = read_fits from octets qs r
+read_fits_in from Der octets qs e r = (let x : Der ≡ Cer = e in absurd cc)
 
 pub not_read : (from to : Mode) (octets : List ℕ) (old : List ℕ) (before : ℕ) → to ≢ Ber → AreWhole from octets → ReadsAsNothing from to octets
     → Converts from to octets 10 old old before before

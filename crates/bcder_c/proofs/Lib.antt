@@ -20,4 +20,6 @@ pub mod PiecesBecome
 pub mod PiecesWritten
 pub mod Segments
 pub mod Passing
+pub mod Cutting
+pub mod CutTrees
 pub mod Converting

@@ -2,7 +2,6 @@
 use Rattle.std.proofs.Common.{◌≡◌, ℕ, zero, suc, List, [], ◌∷◌, ◌++◌, refl, sym, ap, subst, ◌∙◌, append_assoc, append-nil}
 use Rattle.std.specs.List.{concat}
 use Rattle.bcder.specs.declared.mode.Mode.{Mode}
-use Rattle.bcder.specs.declared.mode.Mode.TheVariants.{Der}
 use Rattle.bcder.specs.x690.Identifier.{Tag}
 use Rattle.bcder.specs.x690.OctetString.{segments_of, IsSegment, AreSegments}
 use Rattle.bcder.specs.x690.Tree.{Tree, primitive, constructed, Trees, no_trees, ◌∷ₜ◌}
@@ -21,15 +20,15 @@ both_become mode n k m (p ∷ a) (q ∷ c) b d h j = (h.0, h.1, both_become mode
 
 -- ---- how many values of a string are open behind a piece is determined
 
-beginning_once : (mode : Mode) (k : Kind) (t : Tag) (q r : Made) (m l : ℕ) → BeginningBecomes mode k t q m → BeginningBecomes mode k t r l → m ≡ l
-beginning_once mode Boolean t q r m l h j = absurd h
-beginning_once mode Bits t q r m l h j = absurd h
-beginning_once mode Text t q r m l h j = h.2 ∙ sym j.2
-beginning_once mode Other t q r m l h j = h.1 ∙ sym j.1
+beginning_once : (k : Kind) (t : Tag) (q r : Made) (m l : ℕ) → BeginningBecomes k t q m → BeginningBecomes k t r l → m ≡ l
+beginning_once Boolean t q r m l h j = absurd h
+beginning_once Bits t q r m l h j = absurd h
+beginning_once Text t q r m l h j = h.1 ∙ sym j.1
+beginning_once Other t q r m l h j = h.1 ∙ sym j.1
 
 next_once : (mode : Mode) (n : ℕ) (p : Piece) (q r : Made) (m l : ℕ) → PieceBecomes mode n p q m → PieceBecomes mode n p r l → m ≡ l
 next_once mode zero (value t c) q r m l h j = h.3 ∙ sym j.3
-next_once mode zero (begins t) q r m l h j = beginning_once mode (kind_of t) t q r m l h j
+next_once mode zero (begins t) q r m l h j = beginning_once (kind_of t) t q r m l h j
 next_once mode zero ends q r m l h j = h.1 ∙ sym j.1
 next_once mode (suc n) (value t c) q r m l h j = h.2 ∙ sym j.2
 next_once mode (suc n) (begins t) q r m l h j = h.2 ∙ sym j.2
@@ -53,11 +52,11 @@ mutual
   segments_become mode n (t ∷ₜ ts) s =
       both_become mode (suc n) (suc n) (suc n) (pieces t) (parts t) (pieces_of ts) (parts_of ts) (segment_becomes mode n t s.0) (segments_become mode n ts s.1)
 
-string_begins : (mode : Mode) (k : Kind) (t u : Tag) → k ≡ Text → mode ≡ Der → u ≡ t → BeginningBecomes mode k t (made_string u) 1
-string_begins mode k t u e d same = rw e (d, ap (λ v. made_string v) same, refl)
+string_begins : (k : Kind) (t u : Tag) → k ≡ Text → u ≡ t → BeginningBecomes k t (made_string u) 1
+string_begins k t u e same = rw e (ap (λ v. made_string v) same, refl)
 
-other_begins : (mode : Mode) (k : Kind) (t u : Tag) → k ≡ Other → u ≡ t → BeginningBecomes mode k t (made_beginning u) 0
-other_begins mode k t u e same = rw e (ap (λ v. made_beginning v) same, refl)
+other_begins : (k : Kind) (t u : Tag) → k ≡ Other → u ≡ t → BeginningBecomes k t (made_beginning u) 0
+other_begins k t u e same = rw e (ap (λ v. made_beginning v) same, refl)
 
 mutual
   one_becomes : (mode : Mode) (t u : Tree) → Becomes mode t u → PiecesBecome mode 0 (pieces t) (makes t u) 0
@@ -65,12 +64,12 @@ mutual
   one_becomes mode (primitive t c) (constructed u us) h = absurd h
   one_becomes mode (constructed t ts) (primitive u d) h = (
     1,
-    string_begins mode (kind_of t) t u h.1.text h.1.rules h.0,
+    string_begins (kind_of t) t u h.1.text h.0,
     both_become mode 1 1 0 (pieces_of ts) (parts_of ts) (ends ∷ []) (made_string_end ∷ []) (segments_become mode 0 ts h.1.segments) (0, (refl, refl), refl),
   )
   one_becomes mode (constructed t ts) (constructed u us) h = (
     0,
-    other_begins mode (kind_of t) t u h.1 h.0,
+    other_begins (kind_of t) t u h.1 h.0,
     both_become mode 0 0 0 (pieces_of ts) (all_make ts us) (ends ∷ []) (made_end ∷ []) (all_become mode ts us h.2) (0, (refl, refl), refl),
   )
 
@@ -166,19 +165,19 @@ record TreesBack (mode : Mode) (ts : Trees) (r : List Piece) (qs : List Made) (m
   more : PiecesBecome mode 0 r rest m
 
 constructed_back : (mode : Mode) (t : Tag) (ts : Trees) (r : List Piece) (q : Made) (qs : List Made) (n m : ℕ) (k : Kind) → kind_of t ≡ k
-    → BeginningBecomes mode k t q n → PiecesBecome mode n (pieces_of ts ++ (ends ∷ r)) qs m
+    → BeginningBecomes k t q n → PiecesBecome mode n (pieces_of ts ++ (ends ∷ r)) qs m
     → ((v : List Made) → PiecesBecome mode 0 (pieces_of ts ++ (ends ∷ r)) v m → TreesBack mode ts (ends ∷ r) v m)
     → TreeBack mode (constructed t ts) r (q ∷ qs) m
 constructed_back mode t ts r q qs n m Boolean kind b h inner = absurd b
 constructed_back mode t ts r q qs n m Bits kind b h inner = absurd b
 constructed_back mode t ts r q qs n m Text kind b h inner =
-    let s = segments_back mode 0 ts (ends ∷ r) qs m (subst (λ i. PiecesBecome mode i (pieces_of ts ++ (ends ∷ r)) qs m) b.2 h) in
+    let s = segments_back mode 0 ts (ends ∷ r) qs m (subst (λ i. PiecesBecome mode i (pieces_of ts ++ (ends ∷ r)) qs m) b.1 h) in
     let e = first_back mode 1 ends r s.rest m s.more in
     record {
       tree = primitive t (concat (segments_of ts));
       rest = e.rest;
-      becomes = (refl, record { text = kind; rules = b.0; segments = s.segments; is = refl });
-      is = ap (λ p. p ∷ qs) b.1
+      becomes = (refl, record { text = kind; segments = s.segments; is = refl });
+      is = ap (λ p. p ∷ qs) b.0
           ∙ ap (λ l. made_string t ∷ l) (s.is ∙ ap (λ l. parts_of ts ++ l) (e.is ∙ ap (λ p. p ∷ e.rest) e.becomes.0)
           ∙ sym (append_assoc (parts_of ts) (made_string_end ∷ []) e.rest));
       more = subst (λ i. PiecesBecome mode i r e.rest m) e.becomes.1 e.more;

@@ -27,7 +27,7 @@ use Rattle.bcder_c.specs.Pieces.{LengthFits, AreThere, Fit, spelled, all_spelled
 
 -- ---- the octets of pieces are those of the values
 
-in_front_both : (a b : List ℕ) (f : Frames) → in_front a (in_front b f) ≡ in_front (a ++ b) f
+pub in_front_both : (a b : List ℕ) (f : Frames) → in_front a (in_front b f) ≡ in_front (a ++ b) f
 in_front_both a b f = ap (λ w. record { inner = w; outer = f.outer }) (sym (append_assoc a b f.inner))
 
 in_front_nil : (mode : Mode) (qs : List Made) → written mode qs ≡ in_front [] (written mode qs)
@@ -39,13 +39,13 @@ in_front_nil mode (made_string t ∷ qs) = refl
 in_front_nil mode (made_part c ∷ qs) = refl
 in_front_nil mode (made_string_end ∷ qs) = refl
 
-around : (mode : Mode) (t : Tag) (s : List ℕ) (f : Frames) → headed mode t (in_front s (ended mode f)) ≡ in_front (enclosed mode t s) f
+pub around : (mode : Mode) (t : Tag) (s : List ℕ) (f : Frames) → headed mode t (in_front s (ended mode f)) ≡ in_front (enclosed mode t s) f
 around mode t s f =
     rw (append-nil s) (ap (λ w. record { inner = w; outer = f.outer })
     (sym (append_assoc (header t true (constructed_length mode (length s))) s (closing mode ++ f.inner))
     ∙ sym (append_assoc (header t true (constructed_length mode (length s)) ++ s) (closing mode) f.inner)))
 
-around_string : (t : Tag) (s : List ℕ) (f : Frames) → string_headed t (in_front s (string_ended f)) ≡ in_front (definite t false s) f
+pub around_string : (t : Tag) (s : List ℕ) (f : Frames) → string_headed t (in_front s (string_ended f)) ≡ in_front (definite t false s) f
 around_string t s f =
     rw (append-nil s) (ap (λ w. record { inner = w; outer = f.outer }) (sym (append_assoc (header t false (length_of (Some (length s)))) s f.inner)))
 
@@ -173,7 +173,7 @@ mutual
 
 -- ---- the octets of values are their encodings
 
-encloses : (mode : Mode) (t : Tag) (ts : Trees) (w : List ℕ) → IsValueTag t → LengthFits mode (length w) → AreEncodings mode ts w
+pub encloses : (mode : Mode) (t : Tag) (ts : Trees) (w : List ℕ) → IsValueTag t → LengthFits mode (length w) → AreEncodings mode ts w
     → IsEncoding mode (constructed t ts) (enclosed mode t w)
 encloses Ber t ts w v l e = constructed_written Ber t ts w v (lt-ltb _ _ l) e
 encloses Cer t ts w v l e = cer_written t ts w v e
@@ -186,13 +186,13 @@ one_octet b = by_test (b == 0)
     by_test true = AreOctets-cons 0 [] (omega arith) AreOctets-nil
     by_test false = AreOctets-cons 255 [] (omega arith) AreOctets-nil
 
-contents_octets : (mode : Mode) (k : Kind) (c d : List ℕ) → AreOctets c → ContentsBecome mode k c d → AreOctets d
+pub contents_octets : (mode : Mode) (k : Kind) (c d : List ℕ) → AreOctets c → ContentsBecome mode k c d → AreOctets d
 contents_octets mode Boolean c d o b = rw b.2 (one_octet b.0)
 contents_octets mode Bits c d o b = rw b.1 o
-contents_octets mode Text c d o b = rw b.1 o
+contents_octets mode Text c d o b = rw b o
 contents_octets mode Other c d o b = rw b o
 
-framed_tag : (mode : Mode) (t : Tag) (c w : List ℕ) → IsFramed mode t c w → IsValueTag t
+pub framed_tag : (mode : Mode) (t : Tag) (c w : List ℕ) → IsFramed mode t c w → IsValueTag t
 framed_tag mode t c w (inl d) = d.is_header.is_value_tag
 framed_tag mode t c w (inr d) = d.is_header.is_value_tag
 
@@ -201,7 +201,7 @@ mutual
   segment_octets from (primitive t c) v e = rw (append-nil c) e.0
   segment_octets from (constructed t ts) v e = segments_octets from ts e.0 e.1
 
-  segments_octets : (from : Mode) (ts : Trees) (v : List ℕ) → AreEncodings from ts v → AreOctets (concat (segments_of ts))
+  pub segments_octets : (from : Mode) (ts : Trees) (v : List ℕ) → AreEncodings from ts v → AreOctets (concat (segments_of ts))
   segments_octets from no_trees v e = AreOctets-nil
   segments_octets from (t ∷ₜ ts) v e =
       subst AreOctets (sym (concat-append (segments t) (segments_of ts)))
@@ -239,7 +239,7 @@ form_below : (n : ℕ) (w : List ℕ) → IsLengthForm n w → n < 2 ^ 32
 form_below n w (inl s) = omega (arith, s.0)
 form_below n w (inr l) = omega (arith, l.number, big_endian-lt l.digits l.octets, power (length l.digits) l.limit)
 
-length_below : (mode : Mode) (t : Tag) (form : Bool) (n : ℕ) (h : List ℕ) → IsHeader mode t form (length_of (Some n)) h → n < 2 ^ 32
+pub length_below : (mode : Mode) (t : Tag) (form : Bool) (n : ℕ) (h : List ℕ) → IsHeader mode t form (length_of (Some n)) h → n < 2 ^ 32
 length_below mode t form n h d = form_below n d.length_octets (IsLengthForm-from_length mode n d.length_octets d.tells)
 
 framed_fits : (mode : Mode) (t : Tag) (c w : List ℕ) → IsFramed mode t c w → mode ≢ Ber → LengthFits mode (length c)

@@ -13,3 +13,4 @@ pub mod Strings
 pub mod Text
 pub mod Conversion
 pub mod Pieces
+pub mod Cutting

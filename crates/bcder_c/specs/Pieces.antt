@@ -33,16 +33,16 @@ pub data Made : Type 0 where
   made_part : List ℕ → Made
   made_string_end : Made
 
+abbrev pub made_as : Sort → Tag → List ℕ → Made
+made_as Value t c = made_value t c
+made_as Begin t c = made_beginning t
+made_as End t c = made_end
+made_as Whole t c = made_string t
+made_as Part t c = made_part c
+made_as WholeEnd t c = made_string_end
+
 abbrev pub made_of : Item → Made
-made_of i = of_sort i.sort
-  where
-    of_sort : Sort → Made
-    of_sort Value = made_value i.tag i.contents.now
-    of_sort Begin = made_beginning i.tag
-    of_sort End = made_end
-    of_sort Whole = made_string i.tag
-    of_sort Part = made_part i.contents.now
-    of_sort WholeEnd = made_string_end
+made_of i = made_as i.sort i.tag i.contents.now
 
 abbrev pub all_made : List Item → List Made
 all_made items = map made_of items
@@ -85,16 +85,16 @@ before_all ps r = option_map (λ qs. ps ++ qs) r
 -- ---- what they become in CER or DER
 
 -- the beginning of a constructed value with a tag of this kind
-abbrev pub BeginningBecomes : Mode → Kind → Tag → Made → ℕ → Type 0
-BeginningBecomes mode Boolean t q m = ⊥
-BeginningBecomes mode Bits t q m = ⊥
-BeginningBecomes mode Text t q m = (mode ≡ Der) × (q ≡ made_string t) × (m ≡ 1)
-BeginningBecomes mode Other t q m = (q ≡ made_beginning t) × (m ≡ 0)
+abbrev pub BeginningBecomes : Kind → Tag → Made → ℕ → Type 0
+BeginningBecomes Boolean t q m = ⊥
+BeginningBecomes Bits t q m = ⊥
+BeginningBecomes Text t q m = (q ≡ made_string t) × (m ≡ 1)
+BeginningBecomes Other t q m = (q ≡ made_beginning t) × (m ≡ 0)
 
 -- a piece inside n open values of a string that is cut, which is one of them, becomes q, and m of these are open behind it
 abbrev pub PieceBecomes : Mode → ℕ → Piece → Made → ℕ → Type 0
 PieceBecomes mode zero (value t c) q m = (d : List ℕ) × ContentsBecome mode (kind_of t) c d × (q ≡ made_value t d) × (m ≡ 0)
-PieceBecomes mode zero (begins t) q m = BeginningBecomes mode (kind_of t) t q m
+PieceBecomes mode zero (begins t) q m = BeginningBecomes (kind_of t) t q m
 PieceBecomes mode zero ends q m = (q ≡ made_end) × (m ≡ 0)
 PieceBecomes mode (suc n) (value t c) q m = (t ≡ octet_string_tag) × (q ≡ made_part c) × (m ≡ suc n)
 PieceBecomes mode (suc n) (begins t) q m = (t ≡ octet_string_tag) × (q ≡ made_part []) × (m ≡ suc (suc n))

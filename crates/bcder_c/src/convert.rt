@@ -10,6 +10,7 @@ ghost use Rattle.bcder.specs.declared.mode.Mode.{Mode as ModeValue};
 ghost use Rattle.bcder.specs.steps.Reading.{read_tree};
 ghost use Rattle.bcder_c.specs.Conversion.{ContentsBecome, Converts};
 ghost use Rattle.bcder_c.specs.Conversion.{kind_of as kind_meant};
+ghost use Rattle.bcder_c.specs.Cutting.{CutFit, StoresCut, StoresWritten};
 ghost use Rattle.bcder_c.specs.Next.{IsDue};
 ghost use Rattle.bcder_c.specs.Open.{open_values};
 ghost use Rattle.bcder_c.specs.Pieces.{BeginsPiece, PassesOne, PassesNone, Made, PieceBecomes};
@@ -21,6 +22,7 @@ ghost use Rattle.bcder.specs.declared.mode.Mode.TheVariants.{Ber};
 
 use crate::backwards::write;
 use crate::bits::is_bit_string;
+use crate::cut::cut;
 use crate::rules::mode_of;
 use crate::status::{ABSENT, DONE, NO_MEMORY, NOT_CONVERTED, TOO_SMALL, UNKNOWN_RULES};
 use crate::string::{is_octet_string, store_whole};
@@ -32,7 +34,7 @@ use std::alloc::Global;
 
 /// What a type is to the rules.
 #[derive(Clone, Copy)]
-enum Kind {
+pub(crate) enum Kind {
     Boolean,
     Bits,
     Text,
@@ -91,7 +93,7 @@ const ALL_ONES: &[u8] = &[0xFF];
 const NOTHING: &[u8] = &[];
 
 /// Returns what a type is to the rules, if the tag tells it.
-fn kind_of(tag: Tag) -> Kind
+pub(crate) fn kind_of(tag: Tag) -> Kind
     ensures { result ≡ kind_meant tag }
 {
     if !tag.is_universal() {
@@ -137,14 +139,7 @@ fn contents_in(to: Mode, kind: Kind, contents: &[u8]) -> Option<&[u8]>
                 None
             }
         }
-        Kind::Text => {
-            if to == Mode::Cer && contents.len() > 1000 {
-                None
-            } else {
-                Some(contents)
-            }
-        }
-        Kind::Other => Some(contents),
+        Kind::Text | Kind::Other => Some(contents),
     }
 }
 
@@ -172,19 +167,14 @@ fn item_outside<'a>(
                 },
                 0,
             )),
-            Kind::Text => {
-                if to != Mode::Der {
-                    return None;
-                }
-                Some((
-                    Item {
-                        sort: Sort::Whole,
-                        tag,
-                        contents,
-                    },
-                    1,
-                ))
-            }
+            Kind::Text => Some((
+                Item {
+                    sort: Sort::Whole,
+                    tag,
+                    contents,
+                },
+                1,
+            )),
             _ => None,
         };
     }
@@ -403,6 +393,48 @@ fn read<'a>(alloc: Global, from: Mode, to: Mode, octets: &'a [u8]) -> Result<Vec
     Ok(items)
 }
 
+/// Stores what is written of items.
+fn store_items(
+    alloc: Global,
+    mode: Mode,
+    items: &[Item<'_>],
+    buffer: &mut [u8],
+    size: &mut usize,
+) -> u8
+    ensures { StoresWritten mode (all_made items.now) result
+        buffer.old buffer.new size.old size.new }
+{
+    let mut nowhere = [0u8; 0];
+    match write(alloc, mode, items, &mut nowhere) {
+        Ok(len) => {
+            if len > buffer.len() {
+                *size = len;
+                return TOO_SMALL;
+            }
+            match write(alloc, mode, items, &mut buffer[..len]) {
+                Ok(_) => {
+                    *size = len;
+                    DONE
+                }
+                Err(_) => NO_MEMORY,
+            }
+        }
+        Err(NO_MEMORY) => NO_MEMORY,
+        Err(_) => NOT_CONVERTED,
+    }
+}
+
+/// Stores what is written of items in CER, whose strings are cut.
+fn store_cut(alloc: Global, items: &[Item<'_>], buffer: &mut [u8], size: &mut usize) -> u8
+    requires { CutFit (all_made items.now) }
+    ensures { StoresCut (all_made items.now) result buffer.old buffer.new size.old size.new }
+{
+    match cut(alloc, items) {
+        Ok(cut) => store_items(alloc, Mode::Cer, cut.as_slice(), buffer, size),
+        Err(_) => NO_MEMORY,
+    }
+}
+
 /// Stores values in CER or DER.
 fn store_converted(
     alloc: Global,
@@ -421,24 +453,10 @@ fn store_converted(
         Err(NO_MEMORY) => return NO_MEMORY,
         Err(_) => return NOT_CONVERTED,
     };
-    let mut nowhere = [0u8; 0];
-    match write(alloc, to, items.as_slice(), &mut nowhere) {
-        Ok(len) => {
-            if len > buffer.len() {
-                *size = len;
-                return TOO_SMALL;
-            }
-            match write(alloc, to, items.as_slice(), &mut buffer[..len]) {
-                Ok(_) => {
-                    *size = len;
-                    DONE
-                }
-                Err(_) => NO_MEMORY,
-            }
-        }
-        Err(NO_MEMORY) => NO_MEMORY,
-        Err(_) => NOT_CONVERTED,
+    if to == Mode::Cer {
+        return store_cut(alloc, items.as_slice(), buffer, size);
     }
+    store_items(alloc, to, items.as_slice(), buffer, size)
 }
 
 /// Stores values that are in some rules, in other rules (X.690, 9, 10, 11). They are stored at the

@@ -12,6 +12,7 @@ mod check;
 mod checked;
 mod contents;
 mod convert;
+mod cut;
 mod heading;
 mod identifier;
 mod magnitude;

@@ -1,31 +1,23 @@
-use Rattle.std.proofs.Common.{◌≡◌, take, refl, sym, subst, rules}
-use Rattle.bcder_c.specs.Pieces.{IsAtBack, ReadsAs, all_octets, all_made, written}
-use Rattle.bcder_c.proofs.Converting.{stored_all, too_small_for_all, not_fit}
+use Rattle.std.proofs.Common.{◌≡◌, sym, ap, subst, rules}
+use Rattle.bcder.specs.declared.mode.Mode.TheVariants.{Cer}
+use Rattle.bcder_c.specs.Pieces.{ReadsAs, all_made}
+use Rattle.bcder_c.proofs.Converting.{stored_in_der, stored_in_cer, only_der, read_fits_in}
 use Rattle.bcder_c.proofs.convert.store_converted.Goals as goal
 
-pub returns-then-len-buffer : goal.returns-then-len-buffer
-returns-then-len-buffer c =
-    let v : c.as_slice.result.now ≡ c.in-Ok.items.items = search rules in
-    let r : ReadsAs c.args.from c.args.to c.args.octets.now (all_made c.as_slice.result.now) =
-    subst (λ l. ReadsAs c.args.from c.args.to c.args.octets.now (all_made l)) (sym v) c.in-Ok.ensures.read in
-    too_small_for_all _ _ _ _ _ _ _ c.requires.canonical r c.in-Ok-write.ensures.fit c.in-Ok-write.ensures.stored.count (search rules)
+pub store_cut-requires : goal.store_cut-requires
+store_cut-requires c =
+    let e : c.args.to ≡ Cer = search rules in
+    read_fits_in c.args.from c.args.to c.args.octets.now _ e
+    (subst (ReadsAs c.args.from c.args.to c.args.octets.now) (sym (ap all_made c.as_slice.ensures.value)) c.in-Ok.ensures.read)
 
-pub returns-in-Ok-write-2 : goal.returns-in-Ok-write-2
-returns-in-Ok-write-2 c =
-    let v : c.as_slice.result.now ≡ c.in-Ok.items.items = search rules in
-    let w : c.as_slice-in-Ok-write.result.now ≡ c.as_slice.result.now = search rules in
-    let r : ReadsAs c.args.from c.args.to c.args.octets.now (all_made c.as_slice.result.now) =
-    subst (λ l. ReadsAs c.args.from c.args.to c.args.octets.now (all_made l)) (sym v) c.in-Ok.ensures.read in
-    let b : IsAtBack (all_octets (written c.args.to (all_made c.as_slice.result.now))) (take c.in-Ok-write.len c.args.buffer.now)
-    c.write-in-Ok-write.new.buffer c.in-Ok-write-2.field-0 =
-    subst (λ l. IsAtBack (all_octets (written c.args.to (all_made l))) (take c.in-Ok-write.len c.args.buffer.now)
-    c.write-in-Ok-write.new.buffer c.in-Ok-write-2.field-0) w c.in-Ok-write-2.ensures.stored in
-    stored_all _ _ _ _ _ _ _ _ _ _ c.requires.canonical r c.in-Ok-write.ensures.fit c.in-Ok-write.ensures.stored.count
-    b (search rules) refl
+pub returns-then-eq : goal.returns-then-eq
+returns-then-eq c =
+    let e : c.args.to ≡ Cer = search rules in
+    stored_in_cer _ _ _ _ _ _ _ _ _ e
+    (subst (ReadsAs c.args.from c.args.to c.args.octets.now) (sym (ap all_made c.as_slice.ensures.value)) c.in-Ok.ensures.read) c.store_cut.ensures
 
 pub returns : goal.returns
 returns c =
-    let v : c.as_slice.result.now ≡ c.in-Ok.items.items = search rules in
-    let r : ReadsAs c.args.from c.args.to c.args.octets.now (all_made c.as_slice.result.now) =
-    subst (λ l. ReadsAs c.args.from c.args.to c.args.octets.now (all_made l)) (sym v) c.in-Ok.ensures.read in
-    not_fit _ _ _ _ _ _ c.requires.canonical c.requires.whole r (c.in-Err-write.ensures.none (search rules))
+    let n : c.args.to ≡ Cer → ⊥ = search rules in
+    stored_in_der _ _ _ _ _ _ _ _ _ (only_der c.args.to c.requires.canonical n) c.requires.whole
+    (subst (ReadsAs c.args.from c.args.to c.args.octets.now) (sym (ap all_made c.as_slice-2.ensures.value)) c.in-Ok.ensures.read) c.store_items.ensures
