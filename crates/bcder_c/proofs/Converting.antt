@@ -17,13 +17,15 @@ use Rattle.bcder_c.specs.declared.convert.Item.{Item}
 use Rattle.bcder_c.specs.declared.convert.Sort.TheVariants.{Begin, Whole, Part}
 use Rattle.bcder_c.specs.declared.convert.Kind.{Kind}
 use Rattle.bcder_c.specs.declared.convert.Kind.TheVariants.{Boolean, Bits, Text, Other}
-use Rattle.bcder_c.specs.Conversion.{kind_of, all_or_none, ContentsBecome, Becomes, Become, AreRewritten, IsConversion, Converts, converted, become_nothing, lacking}
+use Rattle.bcder_c.specs.Conversion.{kind_of, all_or_none, ContentsBecome, Becomes, Become, AreRewritten, IsConversion}
+use Rattle.bcder_c.specs.Conversion.{Converts, converted, become_nothing, lacking}
 use Rattle.bcder_c.specs.Buffers.{IsStored, Stores, stored, no_room}
 use Rattle.bcder_c.specs.Cutting.{Adds, cut_written, CutFit, StoresWritten, stores, fits_not, lacks, StoresCut, stores_cut, lacks_cut}
 use Rattle.bcder_c.proofs.CutTrees.{made_cut, read_fits}
 use Rattle.bcder_c.specs.Contents.{HoldsString}
 use Rattle.bcder_c.specs.Open.{Open}
-use Rattle.bcder_c.specs.Pieces.{Piece, pieces_of, pieces_left, before_all, Made, made_beginning, made_string, made_part, made_of, all_made, all_make, PiecesBecome}
+use Rattle.bcder_c.specs.Pieces.{Piece, pieces_of, pieces_left, before_all, PiecesBecome}
+use Rattle.bcder_c.specs.Pieces.{Made, made_beginning, made_string, made_part, made_of, all_made, all_make}
 use Rattle.bcder_c.specs.Pieces.{PassesOne, PassesNone, no_rest, one_is_nothing, ReadsAs, ReadsAsNothing, Frames, with_made, written, all_octets}
 use Rattle.bcder_c.specs.Pieces.{AreThere, FitsBefore, Fit, IsAtBack, AreMarks, HoldsFrames, headed, string_headed, all_spelled, TreesFit}
 use Rattle.bcder_c.proofs.PiecesRead.{before_none, before_both, nothing_left, left_sound, left_complete}

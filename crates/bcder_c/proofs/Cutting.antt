@@ -20,7 +20,8 @@ use Rattle.std.specs.Prelude.{⊤, nat_lt, if◌then◌else◌}
 use Rattle.std.proofs.lemmas.Bool.{lt-ltb}
 use Rattle.std.proofs.Common.{ltb-true}
 use Rattle.bcder_c.specs.Cutting.{CutFit, cut_value, value_written}
-use Rattle.bcder_c.specs.Cutting.{cut_from, cut, closed_left, open_left, body_left, total_of, cut_written, inside_cut, state_written, Adds, Feeds, Opens, Fills, FeedsSome}
+use Rattle.bcder_c.specs.Cutting.{cut_from, cut, closed_left, open_left, body_left, total_of, cut_written, inside_cut, state_written}
+use Rattle.bcder_c.specs.Cutting.{Adds, Feeds, Opens, Fills, FeedsSome}
 use Rattle.bcder_c.specs.Pieces.{Made, made_value, made_beginning, made_end, made_string, made_part, made_string_end}
 use Rattle.bcder_c.specs.Pieces.{AreThere, headed, made_as, made_of, all_made}
 use Rattle.bcder_c.specs.Pieces.{Frames, in_front, string_headed, string_ended, ended, with_made, written, FitsBefore, Fit, all_spelled}

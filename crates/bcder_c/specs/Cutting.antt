@@ -10,7 +10,8 @@ use Rattle.bcder_c.specs.declared.convert.Kind.TheVariants.{Boolean, Bits, Text,
 use Rattle.bcder_c.specs.Buffers.{IsStored}
 use Rattle.bcder_c.specs.Conversion.{kind_of}
 use Rattle.bcder_c.specs.Pieces.{Made, made_value, made_beginning, made_end, made_string, made_part, made_string_end}
-use Rattle.bcder_c.specs.Pieces.{Frames, in_front, headed, ended, string_headed, string_ended, AreThere, Fit, written, all_octets, all_spelled}
+use Rattle.bcder_c.specs.Pieces.{Frames, in_front, headed, ended, string_headed, string_ended}
+use Rattle.bcder_c.specs.Pieces.{AreThere, Fit, written, all_octets, all_spelled}
 use Rattle.bcder_c.specs.Status.{no_memory, not_converted}
 use Rattle.bcder.specs.declared.mode.Mode.{Mode}
 
@@ -61,7 +62,8 @@ unfoldable mutual
   cut_written (made_value t c ∷ qs) = value_written (kind_of t) t c (cut_written qs)
   cut_written (made_beginning t ∷ qs) = headed Cer t (cut_written qs)
   cut_written (made_end ∷ qs) = ended Cer (cut_written qs)
-  cut_written (made_string t ∷ qs) = if nat_lt 1000 (total_of qs) then headed Cer t (inside_cut 0 qs []) else string_headed t (cut_written qs)
+  cut_written (made_string t ∷ qs) =
+      if nat_lt 1000 (total_of qs) then headed Cer t (inside_cut 0 qs []) else string_headed t (cut_written qs)
   cut_written (made_part c ∷ qs) = in_front c (cut_written qs)
   cut_written (made_string_end ∷ qs) = string_ended (cut_written qs)
 

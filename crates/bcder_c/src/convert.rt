@@ -1,9 +1,10 @@
 //! Values in other rules (X.690, 9, 10, 11).
 //!
 //! Values in BER are what they are in other rules. For CER and DER, the octets are read into a list
-//! of items: primitive values, and the beginnings and ends of constructed ones. The list is written
-//! from its end, so that the length of a value is known when its header is written. This is done
-//! twice, the first time to count.
+//! of items: primitive values, the beginnings and ends of constructed ones, and the parts of strings
+//! that were cut. For CER, strings of more than 1000 octets are cut anew. The list is written from
+//! its end, so that the length of a value is known when its header is written. This is done twice,
+//! the first time to count.
 ghost use Rattle.std.specs.Prelude.{◌≡◌, ◌≢◌, ◌<◌, ◌+◌, ◌^◌, length, List, ℕ, option_map};
 ghost use Rattle.std.specs.Prelude.{IfOk, IfErr, IfSome, IfNone, None, ◌⊎◌};
 ghost use Rattle.bcder.specs.declared.mode.Mode.{Mode as ModeValue};
@@ -14,7 +15,8 @@ ghost use Rattle.bcder_c.specs.Cutting.{CutFit, StoresCut, StoresWritten};
 ghost use Rattle.bcder_c.specs.Next.{IsDue};
 ghost use Rattle.bcder_c.specs.Open.{open_values};
 ghost use Rattle.bcder_c.specs.Pieces.{BeginsPiece, PassesOne, PassesNone, Made, PieceBecomes};
-ghost use Rattle.bcder_c.specs.Pieces.{ReadsAs, ReadsAsNothing, made_of, piece_read, all_made, ends};
+ghost use Rattle.bcder_c.specs.Pieces.{ReadsAs, ReadsAsNothing};
+ghost use Rattle.bcder_c.specs.Pieces.{made_of, piece_read, all_made, ends};
 ghost use Rattle.bcder_c.specs.Rules.{AreRules, AreUnknown};
 ghost use Rattle.bcder_c.specs.Status.{no_memory, unknown_rules};
 ghost use Rattle.bcder.specs.calls.Captured.{AreWhole};

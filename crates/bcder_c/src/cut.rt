@@ -1,9 +1,11 @@
 //! Strings that are cut into segments, as CER wants those of more than 1000 octets (X.690, 9.2).
-ghost use Rattle.std.specs.Prelude.{◌≡◌, ◌<◌, ◌≤◌, ◌+◌, ◌++◌, ◌∷◌, [], length, List, ℕ, nat_lt, true, false};
+ghost use Rattle.std.specs.Prelude.{◌≡◌, ◌<◌, ◌≤◌, ◌+◌, ◌++◌, ◌∷◌, [], length, List, ℕ};
+ghost use Rattle.std.specs.Prelude.{nat_lt, true, false};
 ghost use Rattle.std.specs.Prelude.{IfOk, OnOk};
 ghost use Rattle.bcder.specs.declared.mode.Mode.TheVariants.{Cer};
 ghost use Rattle.bcder_c.specs.Cutting.{Adds, Fills, Feeds, Opens, body_left, cut_value};
-ghost use Rattle.bcder_c.specs.Cutting.{FeedsSome, cut_written, inside_cut, state_written, total_of, CutFit};
+ghost use Rattle.bcder_c.specs.Cutting.{FeedsSome, cut_written, inside_cut, state_written};
+ghost use Rattle.bcder_c.specs.Cutting.{total_of, CutFit};
 ghost use Rattle.bcder_c.specs.Pieces.{Made, Frames, all_made, ended, made_as, made_of};
 ghost use Rattle.bcder_c.specs.Conversion.{kind_of as kind_meant};
 ghost use Rattle.bcder_c.specs.declared.convert.Kind.TheVariants.{Text};
@@ -227,7 +229,8 @@ fn is_long(item: &Item<'_>) -> bool
 fn cut_outside<'a>(out: &mut Vec<Item<'a>>, item: &Item<'a>, rest: &[Item<'a>]) -> Result<usize, u8>
     requires { CutFit (made_of item.now ∷ all_made rest.now) }
     ensures { IfOk result (λ m. Adds (all_made out.old.items) (all_made out.new.items)
-        (state_written m (all_made rest.now)) (cut_written (made_of item.now ∷ all_made rest.now))) }
+        (state_written m (all_made rest.now))
+        (cut_written (made_of item.now ∷ all_made rest.now))) }
 {
     match item.sort {
         Sort::Value => {
