@@ -143,16 +143,20 @@ static void compare(int from, int to, const uint8_t *p, size_t n) {
 
 static void lists(void) {
   static const uint8_t letters[] = {0x00, 0x01, 0x02, 0x03, 0x04, 0x1F, 0x24, 0x30, 0x80, 0x81, 0xFF};
-  enum { LETTERS = sizeof letters, LONGER = 6 };
+#ifdef BRIEF
+  enum { LETTERS = sizeof letters, SHORT = 2, LONGER = 5 };
+#else
+  enum { LETTERS = sizeof letters, SHORT = 3, LONGER = 6 };
+#endif
   for (int from = 0; from < 3; from++)
     for (int to = 0; to < 3; to++) {
       uint8_t w[LONGER];
-      for (size_t n = 0; n <= 3; n++)
+      for (size_t n = 0; n <= SHORT; n++)
         for (uint32_t v = 0; v < (uint32_t)1 << (8 * n); v++) {
           for (size_t i = 0; i < n; i++) w[i] = (uint8_t)(v >> (8 * i));
           if (n < 3 || to != REF_BER) compare(from, to, w, n);
         }
-      for (size_t n = 4; n <= LONGER; n++) {
+      for (size_t n = SHORT + 1; n <= LONGER; n++) {
         unsigned long count = 1;
         for (size_t i = 0; i < n; i++) count *= LETTERS;
         for (unsigned long v = 0; v < count; v++) {
