@@ -1,10 +1,12 @@
 /* bcder.h: reading BER, CER and DER (ITU-T X.690), accepted exactly as the rules say. C11 and C++.
  *
- * Every function stores its result where it returns BCDER_OK. bcder_value, bcder_check, bcder_check_within
- * and bcder_check_on store what was passed in every case but BCDER_UNKNOWN_RULES; all others store nothing
- * unless they return BCDER_OK, or `size` alone with BCDER_TOO_SMALL. No octet outside (data, len) is read,
- * and each call ends. Nothing is kept between calls, so any number of threads may call. NULL with length 0
- * is no octets; no other pointer may be NULL. Where a result is stored must not overlap the octets.
+ * Every function stores its result where it returns BCDER_OK. bcder_value, bcder_check,
+ * bcder_check_within and bcder_check_on store what was passed in every case but
+ * BCDER_UNKNOWN_RULES; all others store nothing unless they return BCDER_OK, or `size` alone with
+ * BCDER_TOO_SMALL, but for bcder_convert when memory runs out. No octet outside (data, len) is
+ * read, and each call ends. Nothing is kept between calls, so any number of threads may call. NULL
+ * with length 0 is no octets; no other pointer may be NULL. Where a result is stored must not
+ * overlap the octets.
  * docs/C.md says more. */
 #ifndef BCDER_H
 #define BCDER_H
@@ -29,7 +31,8 @@ enum {
   BCDER_TOO_DEEP = 6,      /* a value is inside more others than were allowed */
   BCDER_FINISHED = 7,      /* all octets were passed */
   BCDER_MISUSED = 8,       /* the state is none of a walk over these octets */
-  BCDER_TOO_SMALL = 9      /* the buffer has no room for what is to be stored */
+  BCDER_TOO_SMALL = 9,     /* the buffer has no room for what is to be stored */
+  BCDER_NOT_CONVERTED = 10 /* a value is not converted to these rules */
 };
 
 /* the header of a value: its identifier octets and length octets */
@@ -131,6 +134,26 @@ uint8_t bcder_ia5(const uint8_t *data, size_t len);                       /* IA5
 uint8_t bcder_string(uint8_t rules, bool constructed, const uint8_t *data, size_t len, uint8_t *out, size_t room,
                      size_t *size);
 
+/* The values that octets encode in the rules `from`, encoded in the rules `to`. They go to `out`,
+ * as those of bcder_string do. Time and memory are linear in `len`, at any depth; memory by malloc.
+ *
+ * To BER the octets stay as they are. To CER and DER headers are written anew, the octet of a
+ * boolean that is true becomes FF, and strings get the form of `to`: DER has them in one piece, CER
+ * cuts those of more than 1000 octets. They may be cut before in any way that BER allows. All other
+ * contents octets stay. ABSENT: the octets are no values in `from`. NOT_CONVERTED: they are, but to
+ * CER or DER one of them is
+ *   - a boolean that is constructed, or that hasn't one octet,
+ *   - a bit string that is constructed, or has unused bits that aren't zero, or isn't one by its
+ *     octets, or to CER has more than 1000 of them,
+ *   - a constructed string with values inside that are no OCTET STRINGs,
+ *   - to DER, a value whose contents octets would be 2^32 or more.
+ * These types are known by their universal tags alone. So the result is a list of encodings in
+ * `to`, but not promised are the order of the values in a SET or a SET OF, that DEFAULT values are
+ * left out, and the form of strings and booleans under other tags, which stay as they are. After
+ * NO_MEMORY `out` may have changed. */
+uint8_t bcder_convert(uint8_t from, uint8_t to, const uint8_t *data, size_t len, uint8_t *out,
+                      size_t room, size_t *size);
+
 /* ---- Readers, over the functions above. They are not proved. ----
  *
  * A reader is octets that are left. Each take reads the next value from its front. It returns
@@ -161,6 +184,7 @@ static inline const char *bcder_error_text(uint8_t status) {
   case BCDER_FINISHED: return "all octets were passed";
   case BCDER_MISUSED: return "the state is none of a walk over these octets";
   case BCDER_TOO_SMALL: return "the buffer has no room for what is to be stored";
+  case BCDER_NOT_CONVERTED: return "a value that is not converted to these rules";
   default: return "no such status";
   }
 }

@@ -44,6 +44,20 @@ int main(void) {
     if (held != 0) { printf("with %ld allocations: %ld blocks are leaked\n", refused, held); return 1; }
   }
   if (held != 0) { printf("%ld blocks are leaked\n", held); return 1; }
+  /* a conversion: the same, and then the size is as it was */
+  static uint8_t out[6 * LEVELS];
+  long of_conversion = 0;
+  for (;; of_conversion++) {
+    size_t size = 7;
+    left = of_conversion;
+    uint8_t status = bcder_convert(BCDER_BER, BCDER_DER, w, sizeof w, out, sizeof out, &size);
+    if (held != 0) { printf("a conversion, with %ld allocations: %ld blocks are leaked\n", of_conversion, held); return 1; }
+    if (status == BCDER_OK && of_conversion > refused) break;
+    if (status != BCDER_NO_MEMORY || size != 7) {
+      printf("a conversion, with %ld allocations: status %d\n", of_conversion, status);
+      return 1;
+    }
+  }
   /* a string of nested segments: the same, and then nothing is stored */
   for (size_t i = 0; i < LEVELS; i++) w[2 * i] = 0x24;
   long of_string = 0;
@@ -63,6 +77,6 @@ int main(void) {
   static const uint8_t null[] = {0x05, 0x00};
   left = 0;
   if (refused == 0 || bcder_check(BCDER_DER, null, 2, &c) != BCDER_OK) { printf("a NULL needs memory\n"); return 1; }
-  printf("%ld allocations for %d levels, each refused once\n", refused, LEVELS);
+  printf("%ld allocations for %d levels, %ld to convert them, each refused once\n", refused, LEVELS, of_conversion);
   return 0;
 }

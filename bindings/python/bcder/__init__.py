@@ -26,7 +26,7 @@ from typing import Iterator, NamedTuple, Optional, Tuple, Union
 
 __all__ = [
     "BER", "CER", "DER", "Checked", "Class", "Error", "Kind", "Rules", "Tag", "Value",
-    "check", "values",
+    "check", "convert", "values",
 ]
 
 
@@ -89,6 +89,7 @@ class Kind(enum.IntEnum):
     TOO_DEEP = 6
     CONTENTS = 7
     OTHER_TAG = 8
+    NOT_CONVERTED = 10
 
 
 _TEXTS = {
@@ -99,6 +100,7 @@ _TEXTS = {
     Kind.TOO_DEEP: "a value inside more others than are allowed",
     Kind.CONTENTS: "contents octets that the type does not allow",
     Kind.OTHER_TAG: "a value of another type",
+    Kind.NOT_CONVERTED: "a value that is not converted to these rules",
 }
 
 
@@ -159,6 +161,10 @@ _value = _call("bcder_value", ctypes.c_uint8, *_SPAN, ctypes.POINTER(_Passed))
 _check = _call("bcder_check", ctypes.c_uint8, *_SPAN, ctypes.POINTER(_Passed))
 _check_within = _call(
     "bcder_check_within", ctypes.c_uint8, *_SPAN, ctypes.c_size_t, ctypes.POINTER(_Passed)
+)
+_convert = _call(
+    "bcder_convert", ctypes.c_uint8, ctypes.c_uint8, *_SPAN, *_SPAN,
+    ctypes.POINTER(ctypes.c_size_t),
 )
 _bool = _call("bcder_bool", ctypes.c_uint8, *_SPAN, ctypes.POINTER(ctypes.c_bool))
 _null = _call("bcder_null", *_SPAN)
@@ -236,6 +242,26 @@ def check(data: Octets, rules: Rules = DER, *, levels: Optional[int] = None) -> 
     if status:
         raise _error(status, passed.at)
     return Checked(passed.values, passed.depth)
+
+
+def convert(data: Octets, source: Rules, target: Rules = DER) -> bytes:
+    """Returns the values that octets encode in the rules `source`, in the rules `target`.
+
+    What is not converted, and what is not looked at, is the same as of `bcder_convert`
+    (include/bcder.h). Raises `Error`, always with the offset 0.
+    """
+    span, size = _Span(data), ctypes.c_size_t()
+    whole = span.part(0, span.size)
+    status = _convert(source, target, *whole, None, 0, ctypes.byref(size))
+    if status == 9:
+        octets = ctypes.create_string_buffer(size.value)
+        stored = (ctypes.addressof(octets), size.value, ctypes.byref(size))
+        status = _convert(source, target, *whole, *stored)
+        if not status:
+            return octets.raw
+    if status:
+        raise _error(status, 0)
+    return b""
 
 
 def values(data: Octets, rules: Rules = DER) -> Iterator[Value]:

@@ -1,11 +1,15 @@
 """Tests of the Python module. Expected values are worked by hand from X.690."""
 
 import doctest
+import pathlib
 import threading
 import unittest
 
 import bcder
 from bcder import BER, CER, DER, Class, Kind, Rules, Tag
+
+
+PYASN1 = pathlib.Path(__file__).parents[3] / "crates/documents/data/values.tsv"
 
 
 def one(text, rules=DER):
@@ -65,6 +69,60 @@ class Check(unittest.TestCase):
         for it in threads:
             it.join()
         self.assertEqual(found, [(1, 1)] * 800)
+
+
+class Convert(unittest.TestCase):
+    def test_values(self):
+        basic = bytes.fromhex("3080 02810105 010101 0000")
+        der, cer = bytes.fromhex("3006 020105 0101ff"), bytes.fromhex("3080 020105 0101ff 0000")
+        self.assertEqual(bcder.convert(basic, BER), der)
+        self.assertEqual(bcder.convert(basic, BER, CER), cer)
+        self.assertEqual(bcder.convert(basic, BER, BER), basic)
+        self.assertEqual(bcder.convert(memoryview(der), DER, CER), cer)
+        self.assertEqual(bcder.convert(b"", CER, DER), b"")
+        cut = bytes.fromhex("2c80 040161 2403 040162 0400 0000")
+        self.assertEqual(bcder.convert(cut, BER), bytes.fromhex("0c02 6162"))
+        self.assertEqual(bcder.convert(cut, BER, CER), bytes.fromhex("0c02 6162"))
+
+    def test_refusals(self):
+        for text, source, kind in (
+            ("3080 0000", DER, Kind.ABSENT),
+            ("2403 020105", BER, Kind.NOT_CONVERTED),
+            ("2c03 0c0161", BER, Kind.NOT_CONVERTED),
+            ("2303 030100", BER, Kind.NOT_CONVERTED),
+            ("0302 0101", BER, Kind.NOT_CONVERTED),
+        ):
+            with self.assertRaises(bcder.Error) as found:
+                bcder.convert(bytes.fromhex(text), source)
+            self.assertEqual((found.exception.kind, found.exception.offset), (kind, 0))
+
+    def test_values_of_pyasn1(self):
+        """What pyasn1 wrote of each value in BER, CER and DER (crates/documents/data)."""
+        converted = 0
+        with open(PYASN1, encoding="ascii") as rows:
+            for row in rows:
+                if row.startswith("#"):
+                    continue
+                kind, _, order, *texts = row.rstrip("\n").split("\t")
+                for at in (1, 2):
+                    if texts[at] == "=":
+                        texts[at] = texts[at - 1]
+                basic, cer, der = map(bytes.fromhex, texts)
+                pairs = [(cer, CER, der, DER), (der, DER, cer, CER)]
+                # In BER a SET OF is in another order, and strings under another tag are cut.
+                if order == "=" and kind != "implicit":
+                    pairs += [(basic, BER, der, DER), (basic, BER, cer, CER)]
+                for data, source, expected, target in pairs:
+                    self.assertEqual(bcder.convert(data, source, target), expected)
+                    converted += 1
+        self.assertGreater(converted, 1000)
+
+    def test_a_million_levels(self):
+        levels = 1_000_000
+        cer = b"\x30\x80" * levels + b"\x00\x00" * levels
+        der = bcder.convert(cer, CER)
+        self.assertEqual(bcder.check(der), (levels, levels))
+        self.assertEqual(bcder.convert(der, DER, CER), cer)
 
 
 class Values(unittest.TestCase):

@@ -64,6 +64,15 @@ mod ffi {
             room: usize,
             checked: &mut Checked,
         ) -> u8;
+        pub fn bcder_convert(
+            from: u8,
+            to: u8,
+            data: *const u8,
+            len: usize,
+            buffer: *mut u8,
+            room: usize,
+            size: &mut usize,
+        ) -> u8;
         pub fn bcder_bool(rules: u8, data: *const u8, len: usize, truth: &mut bool) -> u8;
         pub fn bcder_null(data: *const u8, len: usize) -> u8;
         pub fn bcder_i64(data: *const u8, len: usize, number: &mut i64) -> u8;
@@ -195,6 +204,8 @@ pub enum ErrorKind {
     Left,
     /// The buffer has no room for what is to be stored.
     TooSmall,
+    /// A value is not converted to the other rules.
+    NotConverted,
 }
 
 /// Why octets were refused, and where.
@@ -218,6 +229,7 @@ impl fmt::Display for Error {
             ErrorKind::Contents => "contents octets that the type does not allow",
             ErrorKind::Left => "values that nobody read",
             ErrorKind::TooSmall => "more octets than the buffer has room for",
+            ErrorKind::NotConverted => "a value that is not converted to the other rules",
         };
         write!(f, "octet {}: {text}", self.offset)
     }
@@ -304,6 +316,72 @@ pub fn check_on(rules: Rules, data: &[u8], stack: &mut [usize]) -> Result<Checke
     };
     passed(status, checked.at)?;
     Ok(Checked { values: checked.values, depth: checked.depth })
+}
+
+/// Stores the values that octets encode, in other rules, and returns their octets.
+///
+/// What is not converted, and what is not looked at, is the same as of `bcder_convert`
+/// (`include/bcder.h`).
+///
+/// # Errors
+///
+/// [`ErrorKind::Absent`] if the octets are no values in `from`, [`ErrorKind::NotConverted`],
+/// [`ErrorKind::TooSmall`] and [`ErrorKind::NoMemory`]; all at octet 0.
+pub fn convert<'b>(
+    from: Rules,
+    to: Rules,
+    data: &[u8],
+    buffer: &'b mut [u8],
+) -> Result<&'b [u8], Error> {
+    let mut size = 0;
+    converted(store_converted(from, to, data, buffer, &mut size))?;
+    Ok(&buffer[..size])
+}
+
+/// Returns how many octets [`convert`] stores.
+///
+/// # Errors
+///
+/// Those of [`convert`], but for [`ErrorKind::TooSmall`].
+pub fn converted_len(from: Rules, to: Rules, data: &[u8]) -> Result<usize, Error> {
+    let mut size = 0;
+    match store_converted(from, to, data, &mut [], &mut size) {
+        TOO_SMALL => {}
+        status => converted(status)?,
+    }
+    Ok(size)
+}
+
+fn store_converted(
+    from: Rules,
+    to: Rules,
+    data: &[u8],
+    buffer: &mut [u8],
+    size: &mut usize,
+) -> u8 {
+    // SAFETY: as in `check`; octets are stored in an exclusive slice alone.
+    unsafe {
+        ffi::bcder_convert(
+            from as u8,
+            to as u8,
+            data.as_ptr(),
+            data.len(),
+            buffer.as_mut_ptr(),
+            buffer.len(),
+            size,
+        )
+    }
+}
+
+fn converted(status: u8) -> Result<(), Error> {
+    let kind = match status {
+        0 => return Ok(()),
+        2 => ErrorKind::NoMemory,
+        TOO_SMALL => ErrorKind::TooSmall,
+        10 => ErrorKind::NotConverted,
+        _ => ErrorKind::Absent,
+    };
+    Err(Error { kind, offset: 0 })
 }
 
 /// A reader of values, one after the other.

@@ -1,5 +1,5 @@
 //! Expected values are worked by hand from X.690.
-use bcder_verified::{check, check_on, check_within, Checked, Class, Error, ErrorKind, Reader, Rules, Tag};
+use bcder_verified::{check, check_on, check_within, convert, converted_len, Checked, Class, Error, ErrorKind, Reader, Rules, Tag};
 
 fn refused<T>(kind: ErrorKind, offset: usize) -> Result<T, Error> {
     Err(Error { kind, offset })
@@ -27,6 +27,26 @@ fn lists_are_checked() {
     assert_eq!(check_on(Rules::Ber, &indefinite, &mut stack[..1]), Ok(Checked { values: 2, depth: 2 }));
     assert_eq!(check_on(Rules::Ber, &indefinite[..4], &mut stack), refused(ErrorKind::Ended, 4));
     assert_eq!(check_on(Rules::Der, &[5, 0], &mut []), Ok(Checked { values: 1, depth: 1 }));
+}
+
+#[test]
+fn values_are_converted() {
+    let basic = [0x30, 0x80, 2, 0x81, 1, 5, 1, 1, 1, 0, 0];
+    let der = [0x30, 6, 2, 1, 5, 1, 1, 0xFF];
+    let cer = [0x30, 0x80, 2, 1, 5, 1, 1, 0xFF, 0, 0];
+    let mut buffer = [7; 10];
+    assert_eq!(convert(Rules::Ber, Rules::Der, &basic, &mut buffer), Ok(&der[..]));
+    assert_eq!(convert(Rules::Der, Rules::Cer, &der, &mut buffer), Ok(&cer[..]));
+    assert_eq!(convert(Rules::Cer, Rules::Ber, &cer, &mut buffer), Ok(&cer[..]));
+    assert_eq!(converted_len(Rules::Ber, Rules::Der, &basic), Ok(8));
+    assert_eq!(convert(Rules::Ber, Rules::Der, &basic, &mut buffer[..7]), refused(ErrorKind::TooSmall, 0));
+    assert_eq!(converted_len(Rules::Der, Rules::Ber, &basic), refused(ErrorKind::Absent, 0));
+    let cut = [0x24, 3, 4, 1, 5];
+    assert_eq!(convert(Rules::Ber, Rules::Der, &cut, &mut buffer), Ok(&cut[2..]));
+    assert_eq!(convert(Rules::Ber, Rules::Cer, &cut, &mut buffer), Ok(&cut[2..]));
+    let bits = [0x23, 4, 3, 2, 0, 5];
+    assert_eq!(converted_len(Rules::Ber, Rules::Der, &bits), refused(ErrorKind::NotConverted, 0));
+    assert_eq!(converted_len(Rules::Ber, Rules::Ber, &cut), Ok(5));
 }
 
 #[test]

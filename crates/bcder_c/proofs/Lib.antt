@@ -15,3 +15,11 @@ pub mod Magnitudes
 pub mod Storing
 pub mod Strings
 pub mod Identifiers
+pub mod PiecesRead
+pub mod PiecesBecome
+pub mod PiecesWritten
+pub mod Segments
+pub mod Passing
+pub mod Cutting
+pub mod CutTrees
+pub mod Converting

@@ -98,7 +98,7 @@ no_tree mode w o none = go (read_tree mode w) refl
 -- behind a header
 module _ (mode : Mode) (w : List ℕ) (t : Tag) (f : Bool) (n : Option ℕ) (h z : List ℕ) (o : AreOctets w)
     (d : IsHeader mode t f (length_of n) h) (is : w ≡ h ++ z) where
-  behind : read_tree mode w ≡ read_contents (read_list mode) t f (length_of n) z
+  pub behind : read_tree mode w ≡ read_contents (read_list mode) t f (length_of n) z
   behind = from_header mode (record { tag = t; form = f; len = length_of n }) w z o (ap (read_header mode) is ∙ header_complete mode t f (length_of n) h z d)
 
   pub too_short : (k : ℕ) → n ≡ Some k → length z < k → read_tree mode w ≡ None

@@ -11,3 +11,6 @@ pub mod Identifiers
 pub mod Negated
 pub mod Strings
 pub mod Text
+pub mod Conversion
+pub mod Pieces
+pub mod Cutting

@@ -41,6 +41,10 @@ misused = 8
 abbrev pub too_small : ℕ
 too_small = 9
 
+-- a value is not converted to these rules
+abbrev pub not_converted : ℕ
+not_converted = 10
+
 -- P holds of what was stored, and it was done; or P holds of nothing, and nothing was stored
 abbrev pub Found : {T : Type 0} → (T → Type 0) → ℕ → T → T → Type 0
 Found P status old new = (status ≡ done) × P new ⊎ (status ≡ absent) × ((x : _) → P x → ⊥) × (new ≡ old)

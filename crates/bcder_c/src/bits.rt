@@ -53,7 +53,7 @@ fn may_have(mode: Mode, unused: u8, octets: &[u8]) -> bool
 }
 
 /// Returns whether the octets are contents octets of a bit string.
-fn is_bit_string(mode: Mode, contents: &[u8]) -> bool
+pub(crate) fn is_bit_string(mode: Mode, contents: &[u8]) -> bool
     ensures { IsTrue result ↔ BitShape mode contents.now }
 {
     match contents {

@@ -5,11 +5,14 @@
 //! `docs/C.md` says what is proved of them.
 #![tactic(auto)]
 
+mod backwards;
 mod bits;
 mod buffer;
 mod check;
 mod checked;
 mod contents;
+mod convert;
+mod cut;
 mod heading;
 mod identifier;
 mod magnitude;

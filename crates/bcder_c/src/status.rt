@@ -29,3 +29,6 @@ pub(crate) const MISUSED: u8 = 8;
 
 /// The buffer has no room for what is to be stored.
 pub(crate) const TOO_SMALL: u8 = 9;
+
+/// A value is not converted to these rules.
+pub(crate) const NOT_CONVERTED: u8 = 10;

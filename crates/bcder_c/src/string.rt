@@ -31,7 +31,7 @@ struct Piece<'a> {
     rest: &'a [u8],
 }
 
-fn is_octet_string(tag: Tag) -> bool
+pub(crate) fn is_octet_string(tag: Tag) -> bool
     ensures { result ≡ is_of_string tag }
 {
     tag.is_universal() && tag.number() == 4
@@ -180,7 +180,7 @@ fn store_joined(mode: Mode, octets: &[u8], buffer: &mut [u8], size: &mut usize) 
 }
 
 /// Stores the octets of a string in one piece (X.690, 8.7.2, 9.2).
-fn store_whole(mode: Mode, octets: &[u8], buffer: &mut [u8], size: &mut usize) -> u8
+pub(crate) fn store_whole(mode: Mode, octets: &[u8], buffer: &mut [u8], size: &mut usize) -> u8
     ensures { Stores (HoldsString mode false octets.now) result
         buffer.old buffer.new size.old size.new }
 {

@@ -15,7 +15,7 @@ use std::alloc::Global;
 /// Goes past the end of the innermost open value if that comes next, adds its octets to `at`, and
 /// returns the octets after it.
 #[inline(always)]
-fn close<'a>(
+pub(crate) fn close<'a>(
     mode: Mode,
     innermost: Option<&'a [u8]>,
     rest: &'a [u8],
