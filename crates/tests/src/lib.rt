@@ -32,8 +32,6 @@ mod over;
 #[cfg(test)]
 mod refusals;
 #[cfg(test)]
-mod skips;
-#[cfg(test)]
 mod sources;
 #[cfg(test)]
 mod tag_names;
