@@ -52,7 +52,7 @@ pub fn is_failed<T: Drop, E: Drop>(outcome: Result<T, DecodeError<E>>) -> bool {
 /// A row of a table, by its number from 0 on, and what it is checked over.
 #[derive(Drop)]
 pub struct Case<'a, R> {
-    rt: &'a R,
+    pub rt: &'a R,
     pub alloc: Global,
     row: usize,
     over: &'static str,

@@ -2,7 +2,7 @@
 //! `vectors` and `values`.
 //!
 //! There is one module for each subject, and each also runs over the source of `support`. Tests of
-//! strings and of failures are in `strings` and `failures`.
+//! failures are in a crate of their own.
 #![tactic(auto)]
 
 #[cfg(test)]
@@ -33,6 +33,8 @@ mod over;
 mod refusals;
 #[cfg(test)]
 mod sources;
+#[cfg(test)]
+mod strings;
 #[cfg(test)]
 mod tag_names;
 #[cfg(test)]
