@@ -99,13 +99,14 @@ pub const CALLS: [(&str, Call); 34] = [
 pub const OWN: u8 = 200;
 
 /// The words for the tags.
-const TAGS: [(&str, Tag); 7] = [
+const TAGS: [(&str, Tag); 8] = [
     ("INTEGER", Tag::INTEGER),
     ("BOOLEAN", Tag::BOOLEAN),
     ("NULL", Tag::NULL),
     ("OCTET_STRING", Tag::OCTET_STRING),
     ("SEQUENCE", Tag::SEQUENCE),
     ("SET", Tag::SET),
+    ("DATE", Tag::DATE),
     ("END_OF_VALUE", Tag::END_OF_VALUE),
 ];
 

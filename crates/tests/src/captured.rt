@@ -4,7 +4,7 @@
 
 ghost use Rattle.bcder.specs.calls.Views.{Moved};
 
-use crate::asserts::{done, holds, same, shows};
+use crate::asserts::{Case, holds};
 use crate::encodes::{refuses, writes};
 use bcder::captured::CapturedBuilder;
 use bcder::decode::{Constructed as Content, DecodeError, IntoSource, SliceSource, Source};
@@ -60,245 +60,285 @@ fn passed_in_ber<S: Source>(
     cons.capture(alloc, |inner| pass_in_ber(inner, alloc))
 }
 
+/// How captured values are made.
+#[derive(Clone, Copy)]
+enum Made {
+    /// All values of the octets, in a mode.
+    All(Mode),
+
+    /// None, in DER.
+    Empty,
+
+    /// What a SEQUENCE in BER holds.
+    Inside,
+
+    /// What is skipped in BER, inside DER.
+    InBer,
+
+    /// What follows an empty OCTET STRING, in DER; a copy of it; and what is built of it, with six
+    /// behind it or nothing.
+    Second,
+    Copy,
+    More,
+    Again,
+
+    /// What an encoder writes: in DER; in BER; in CER, where it is handed over; nothing, in DER.
+    ToCaptured,
+    FromValues,
+    HandedOver,
+    Nothing,
+
+    /// Captured values in a row, inside a SEQUENCE in DER, and alone in BER.
+    Listed,
+    Several,
+
+    /// What is built of several, or of none, in CER.
+    Built,
+    OfNone,
+
+    /// What is built with room, and what is left of a builder that refused, in DER.
+    WithRoom,
+    Kept,
+}
+
+/// The modes in which values that were captured in BER, CER or DER are written.
+const BER: [bool; 3] = [true, false, false];
+
+const CER: [bool; 3] = [true, true, false];
+
+const DER: [bool; 3] = [true, false, true];
+
+/// Captured values, their octets, the modes in which they are written, and their position in their
+/// source.
+type Line = (Made, &'static [u8], [bool; 3], &'static str);
+
+const FIVE: &[u8] = &[0x02, 0x01, 0x05];
+
+const DEFINITE: &[u8] = &[0x02, 0x01, 0x05, 0x30, 0x03, 0x01, 0x01, 0xFF];
+
+const INDEFINITE: &[u8] = &[0x02, 0x01, 0x05, 0x30, 0x80, 0x01, 0x01, 0xFF, 0x00, 0x00];
+
+const LINES: [Line; 20] = [
+    (
+        Made::All(Mode::Ber),
+        &[0x30, 0x80, 0x02, 0x01, 0x05, 0x00, 0x00],
+        BER,
+        "0",
+    ),
+    (
+        Made::All(Mode::Cer),
+        &[0x30, 0x80, 0x02, 0x01, 0x05, 0x00, 0x00],
+        CER,
+        "0",
+    ),
+    (
+        Made::All(Mode::Der),
+        &[0x30, 0x03, 0x02, 0x01, 0x05],
+        DER,
+        "0",
+    ),
+    (Made::Empty, &[], DER, "0"),
+    (Made::Inside, FIVE, BER, "2"),
+    (Made::InBer, &[0x30, 0x80, 0x00, 0x00], BER, "0"),
+    (Made::Second, FIVE, DER, "2"),
+    (Made::Copy, FIVE, DER, "2"),
+    (Made::More, &[0x02, 0x01, 0x05, 0x02, 0x01, 0x06], DER, "0"),
+    (Made::Again, FIVE, DER, "0"),
+    (Made::ToCaptured, DEFINITE, DER, "0"),
+    (Made::FromValues, DEFINITE, BER, "0"),
+    (Made::HandedOver, INDEFINITE, CER, "0"),
+    (Made::Nothing, &[], DER, "0"),
+    (
+        Made::Listed,
+        &[0x30, 0x05, 0x02, 0x01, 0x05, 0x05, 0x00],
+        DER,
+        "0",
+    ),
+    (Made::Several, &[0x02, 0x01, 0x05, 0x05, 0x00], BER, "0"),
+    (Made::Built, INDEFINITE, CER, "0"),
+    (Made::OfNone, &[], CER, "0"),
+    (
+        Made::WithRoom,
+        &[0x30, 0x03, 0x01, 0x01, 0xFF, 0x01, 0x01, 0x00],
+        DER,
+        "0",
+    ),
+    (Made::Kept, &[0x02, 0x01, 0x01], DER, "0"),
+];
+
 /// Captures all values of the octets in a mode.
-fn capture(rt: &impl Abort, alloc: Global, octets: &[u8], mode: Mode) -> Captured {
-    done(
-        rt,
-        mode.decode(SliceSource::new(octets), |cons| all(cons, alloc)),
-    )
+fn capture(case: &Case<'_, impl Abort>, octets: &[u8], mode: Mode) -> Captured {
+    let alloc = case.alloc;
+    case.done(mode.decode(SliceSource::new(octets), |cons| all(cons, alloc)))
 }
 
-/// Asserts that the value holds these octets, from position 0, and writes them unchanged in this
-/// mode.
-fn holds_from_start(rt: &impl Abort, alloc: Global, captured: Captured, mode: Mode, wanted: &[u8]) {
-    same(rt, captured.as_slice(), wanted);
-    writes(rt, alloc, &captured, mode, wanted);
-    shows(rt, alloc, &captured.into_source().pos(), "0");
-}
-
-/// Asserts that the values are refused in this mode, since they were captured in another.
-fn not_in<V: Values>(rt: &impl Abort, alloc: Global, values: &V, mode: Mode)
-    requires { V.can_encode values.now }
+/// Captures what is inside a SEQUENCE.
+#[tactic(auto, using(bcder::specs::laws::Moved::steps))]
+fn inside<S: Source>(
+    cons: &mut Content<'_, S>,
+    alloc: Global,
+) -> Result<Captured, DecodeError<S::Error>>
+    ensures { Moved S.stream cons }
 {
-    refuses(rt, alloc, values, mode, EncodeError::CapturedMode);
+    cons.take_sequence(|inner| inner.capture_all(alloc))
+}
+
+/// Captures values of octets.
+fn read(case: &Case<'_, impl Abort>, made: Made) -> Captured {
+    let alloc = case.alloc;
+    let held = [0x30, 0x80, 0x02, 0x01, 0x05, 0x00, 0x00];
+    let behind = [0x04, 0x00, 0x02, 0x01, 0x05];
+    let open = [0x30, 0x80, 0x00, 0x00];
+    let found = match made {
+        Made::Inside => Mode::Ber.decode(SliceSource::new(&held), |cons| inside(cons, alloc)),
+        Made::InBer => Mode::Der.decode(SliceSource::new(&open), |cons| passed_in_ber(cons, alloc)),
+        _ => Mode::Der.decode(SliceSource::new(&behind), |cons| second(cons, alloc)),
+    };
+    case.done(found)
+}
+
+/// Builds on captured values.
+fn build_on(case: &Case<'_, impl Abort>, captured: Captured, more: bool) -> Captured {
+    let mut builder = case.done(captured.into_builder(case.alloc));
+    if more {
+        case.done(builder.extend(6u8.encode()));
+    }
+    case.done(builder.freeze())
+}
+
+/// Captures what an encoder writes.
+fn encode(case: &Case<'_, impl Abort>, made: Made) -> Captured {
+    let alloc = case.alloc;
+    let values = (5u8.encode(), sequence(true.encode()));
+    let found = match made {
+        Made::ToCaptured => values.to_captured(alloc, Mode::Der),
+        Made::FromValues => Captured::from_values(alloc, Mode::Ber, &values),
+        Made::HandedOver => Captured::from_values(alloc, Mode::Cer, values),
+        _ => Nothing.to_captured(alloc, Mode::Der),
+    };
+    case.done(found)
+}
+
+/// Captures an INTEGER, nothing, and NULL, and then all of them, inside a SEQUENCE or not.
+fn gather(case: &Case<'_, impl Abort>, made: Made) -> Captured {
+    let mut list = Vec::new(case.alloc);
+    case.done(list.push(capture(case, FIVE, Mode::Der)));
+    case.done(list.push(Captured::empty(case.alloc, Mode::Der)));
+    case.done(list.push(capture(case, &[0x05, 0x00], Mode::Der)));
+    let found = match made {
+        Made::Listed => sequence(list.as_slice()).to_captured(case.alloc, Mode::Der),
+        _ => list.to_captured(case.alloc, Mode::Ber),
+    };
+    case.done(found)
+}
+
+/// Builds of an INTEGER, a SEQUENCE and nothing.
+fn build(case: &Case<'_, impl Abort>) -> Captured {
+    let mut builder = Captured::builder(case.alloc, Mode::Cer);
+    case.done(builder.extend(5u8.encode()));
+    case.done(builder.extend(sequence(true.encode())));
+    case.done(builder.extend(Nothing));
+    case.done(builder.freeze())
+}
+
+/// Builds with less room than is needed.
+fn build_with_room(case: &Case<'_, impl Abort>) -> Captured {
+    let mut builder = case.done(CapturedBuilder::with_capacity(case.alloc, 5, Mode::Der));
+    case.done(builder.extend(sequence(true.encode())));
+    case.done(builder.extend(false.encode()));
+    case.done(builder.freeze())
+}
+
+/// Builds of one value, where refused ones change nothing.
+fn keep(case: &Case<'_, impl Abort>) -> Captured {
+    let basic = capture(case, FIVE, Mode::Ber);
+    let mut builder = Captured::builder(case.alloc, Mode::Der);
+    case.done(builder.extend(1u8.encode()));
+    case.same(builder.extend(&basic), Err(EncodeError::CapturedMode));
+    let behind = builder.extend((2u8.encode(), &basic));
+    case.same(behind, Err(EncodeError::CapturedMode));
+    let marker = builder.extend((2u8.encode(), true.encode_as(Tag::END_OF_VALUE)));
+    case.same(marker, Err(EncodeError::EndOfValueTag));
+    case.done(builder.freeze())
+}
+
+/// Makes the captured values of a line.
+fn make(case: &Case<'_, impl Abort>, made: Made, octets: &[u8]) -> Captured {
+    match made {
+        Made::All(mode) => capture(case, octets, mode),
+        Made::Empty => Captured::empty(case.alloc, Mode::Der),
+        Made::Inside | Made::InBer | Made::Second => read(case, made),
+        Made::Copy => case.done(read(case, made).clone()),
+        Made::More => build_on(case, read(case, made), true),
+        Made::Again => build_on(case, read(case, made), false),
+        Made::Listed | Made::Several => gather(case, made),
+        Made::Built => build(case),
+        Made::OfNone => case.done(CapturedBuilder::new(case.alloc, Mode::Cer).freeze()),
+        Made::WithRoom => build_with_room(case),
+        Made::Kept => keep(case),
+        _ => encode(case, made),
+    }
+}
+
+/// Checks that the values are written unchanged in a mode, and captured from position 0, or that
+/// they are refused, since they were captured in another.
+fn check_mode(
+    case: &Case<'_, impl Abort>,
+    captured: &Captured,
+    mode: Mode,
+    octets: &[u8],
+    written: bool,
+) {
+    let again = captured.to_captured(case.alloc, mode);
+    if written {
+        writes(case, captured, mode, octets);
+        let again = case.done(again);
+        case.same(again.as_slice(), octets);
+        writes(case, &again, mode, octets);
+        case.shows(&again.into_source().pos(), "0");
+    } else {
+        refuses(case, captured, mode, EncodeError::CapturedMode);
+        case.holds(matches!(again, Err(EncodeError::CapturedMode)));
+    }
+}
+
+/// Checks what a line says of captured values.
+fn check(case: &Case<'_, impl Abort>, line: Line) {
+    let (made, octets, [ber, cer, der], at) = line;
+    let captured = make(case, made, octets);
+    case.same(captured.as_slice(), octets);
+    check_mode(case, &captured, Mode::Ber, octets, ber);
+    check_mode(case, &captured, Mode::Cer, octets, cer);
+    check_mode(case, &captured, Mode::Der, octets, der);
+    case.shows(&captured.into_source().pos(), at);
 }
 
 #[test]
-fn of_ber_written_in_ber_alone(rt: HostRuntime) {
-    let octets = [0x30, 0x80, 0x02, 0x01, 0x05, 0x00, 0x00];
-    let basic = capture(&rt, rt.alloc(), &octets, Mode::Ber);
-    writes(&rt, rt.alloc(), &basic, Mode::Ber, &octets);
-    not_in(&rt, rt.alloc(), &basic, Mode::Cer);
-    not_in(&rt, rt.alloc(), &basic, Mode::Der);
+fn captured_values(rt: HostRuntime) {
+    for (row, line) in LINES.iter().enumerate() {
+        check(&Case::new(&rt, rt.alloc(), row), *line);
+    }
 }
 
 #[test]
-fn of_cer_written_in_ber_and_cer(rt: HostRuntime) {
-    let octets = [0x30, 0x80, 0x02, 0x01, 0x05, 0x00, 0x00];
-    let canonical = capture(&rt, rt.alloc(), &octets, Mode::Cer);
-    writes(&rt, rt.alloc(), &canonical, Mode::Ber, &octets);
-    writes(&rt, rt.alloc(), &canonical, Mode::Cer, &octets);
-    not_in(&rt, rt.alloc(), &canonical, Mode::Der);
+fn no_memory_has_so_much_room(rt: HostRuntime) {
+    let none = CapturedBuilder::with_capacity(rt.alloc(), usize::MAX, Mode::Der);
+    holds(&rt, matches!(none, Err(NoMemory)));
 }
 
-#[test]
-fn of_der_written_in_ber_and_der(rt: HostRuntime) {
-    let octets = [0x30, 0x03, 0x02, 0x01, 0x05];
-    let distinguished = capture(&rt, rt.alloc(), &octets, Mode::Der);
-    writes(&rt, rt.alloc(), &distinguished, Mode::Ber, &octets);
-    writes(&rt, rt.alloc(), &distinguished, Mode::Der, &octets);
-    not_in(&rt, rt.alloc(), &distinguished, Mode::Cer);
-}
-
-#[test]
-fn refused_where_there_are_none(rt: HostRuntime) {
-    let none = Captured::empty(rt.alloc(), Mode::Der);
-    writes(&rt, rt.alloc(), &none, Mode::Der, &[]);
-    writes(&rt, rt.alloc(), &none, Mode::Ber, &[]);
-    not_in(&rt, rt.alloc(), &none, Mode::Cer);
-}
-
-/// Captures what a SEQUENCE in BER holds: an INTEGER.
-fn held(rt: &impl Abort, alloc: Global) -> Captured {
-    let octets = [0x30, 0x80, 0x02, 0x01, 0x05, 0x00, 0x00];
-    let captured = Mode::Ber.decode(SliceSource::new(&octets), |cons| {
-        cons.take_sequence(|cons| cons.capture_all(alloc))
-    });
-    done(rt, captured)
-}
-
-#[test]
-fn what_a_sequence_holds(rt: HostRuntime) {
-    let captured = held(&rt, rt.alloc());
-    let wanted = [0x02, 0x01, 0x05];
-    writes(&rt, rt.alloc(), &captured, Mode::Ber, &wanted);
-    let again = done(&rt, captured.to_captured(rt.alloc(), Mode::Ber));
-    holds_from_start(&rt, rt.alloc(), again, Mode::Ber, &wanted);
-}
-
-#[test]
-fn what_a_sequence_in_ber_holds_is_refused_in_der(rt: HostRuntime) {
-    let captured = held(&rt, rt.alloc());
-    not_in(&rt, rt.alloc(), &captured, Mode::Der);
-    let refused = captured.to_captured(rt.alloc(), Mode::Der);
-    holds(&rt, matches!(refused, Err(EncodeError::CapturedMode)));
-}
-
-#[test]
-fn labelled_by_the_mode_that_was_set(rt: HostRuntime) {
-    let octets = [0x30, 0x80, 0x00, 0x00];
-    let alloc = rt.alloc();
-    let captured = done(
-        &rt,
-        Mode::Der.decode(SliceSource::new(&octets), |cons| passed_in_ber(cons, alloc)),
-    );
-    writes(&rt, rt.alloc(), &captured, Mode::Ber, &octets);
-    not_in(&rt, rt.alloc(), &captured, Mode::Der);
+/// Checks that captured values in DER, and the tag of end-of-contents octets around them, behind
+/// them or before them, are refused in CER for the first of the two.
+fn check_first(case: &Case<'_, impl Abort>, none: &Captured) {
+    let inside = Constructed::new(Tag::END_OF_VALUE, none);
+    refuses(case, &inside, Mode::Cer, EncodeError::EndOfValueTag);
+    let first = sequence((none, true.encode_as(Tag::END_OF_VALUE)));
+    refuses(case, &first, Mode::Cer, EncodeError::CapturedMode);
+    let second = sequence((true.encode_as(Tag::END_OF_VALUE), none));
+    refuses(case, &second, Mode::Cer, EncodeError::EndOfValueTag);
 }
 
 #[test]
 fn the_first_refusal_is_answered(rt: HostRuntime) {
     let none = Captured::empty(rt.alloc(), Mode::Der);
-    let inside = Constructed::new(Tag::END_OF_VALUE, &none);
-    refuses(
-        &rt,
-        rt.alloc(),
-        &inside,
-        Mode::Cer,
-        EncodeError::EndOfValueTag,
-    );
-    let first = sequence((&none, true.encode_as(Tag::END_OF_VALUE)));
-    not_in(&rt, rt.alloc(), &first, Mode::Cer);
-    let second = sequence((true.encode_as(Tag::END_OF_VALUE), &none));
-    refuses(
-        &rt,
-        rt.alloc(),
-        &second,
-        Mode::Cer,
-        EncodeError::EndOfValueTag,
-    );
-}
-
-#[test]
-fn of_an_encoder(rt: HostRuntime) {
-    let values = (5u8.encode(), sequence(true.encode()));
-    let definite = [0x02, 0x01, 0x05, 0x30, 0x03, 0x01, 0x01, 0xFF];
-    let captured = done(&rt, values.to_captured(rt.alloc(), Mode::Der));
-    holds_from_start(&rt, rt.alloc(), captured, Mode::Der, &definite);
-    let captured = done(&rt, Captured::from_values(rt.alloc(), Mode::Ber, &values));
-    holds_from_start(&rt, rt.alloc(), captured, Mode::Ber, &definite);
-}
-
-#[test]
-fn of_an_encoder_that_is_handed_over(rt: HostRuntime) {
-    let values = (5u8.encode(), sequence(true.encode()));
-    let indefinite = [0x02, 0x01, 0x05, 0x30, 0x80, 0x01, 0x01, 0xFF, 0x00, 0x00];
-    let captured = done(&rt, Captured::from_values(rt.alloc(), Mode::Cer, values));
-    holds_from_start(&rt, rt.alloc(), captured, Mode::Cer, &indefinite);
-    let captured = done(&rt, Nothing.to_captured(rt.alloc(), Mode::Der));
-    holds_from_start(&rt, rt.alloc(), captured, Mode::Der, &[]);
-}
-
-#[test]
-fn built_of_several(rt: HostRuntime) {
-    let mut builder = Captured::builder(rt.alloc(), Mode::Cer);
-    done(&rt, builder.extend(5u8.encode()));
-    done(&rt, builder.extend(sequence(true.encode())));
-    done(&rt, builder.extend(Nothing));
-    let wanted = [0x02, 0x01, 0x05, 0x30, 0x80, 0x01, 0x01, 0xFF, 0x00, 0x00];
-    let captured = done(&rt, builder.freeze());
-    holds_from_start(&rt, rt.alloc(), captured, Mode::Cer, &wanted);
-    let none = done(&rt, CapturedBuilder::new(rt.alloc(), Mode::Cer).freeze());
-    holds_from_start(&rt, rt.alloc(), none, Mode::Cer, &[]);
-}
-
-#[test]
-fn built_with_room(rt: HostRuntime) {
-    let mut builder = done(
-        &rt,
-        CapturedBuilder::with_capacity(rt.alloc(), 5, Mode::Der),
-    );
-    done(&rt, builder.extend(sequence(true.encode())));
-    done(&rt, builder.extend(false.encode()));
-    let wanted = [0x30, 0x03, 0x01, 0x01, 0xFF, 0x01, 0x01, 0x00];
-    let captured = done(&rt, builder.freeze());
-    holds_from_start(&rt, rt.alloc(), captured, Mode::Der, &wanted);
-    let none = CapturedBuilder::with_capacity(rt.alloc(), usize::MAX, Mode::Der);
-    holds(&rt, matches!(none, Err(NoMemory)));
-}
-
-#[test]
-fn a_refused_extend_changes_nothing(rt: HostRuntime) {
-    let basic = capture(&rt, rt.alloc(), &[0x02, 0x01, 0x05], Mode::Ber);
-    let mut builder = Captured::builder(rt.alloc(), Mode::Der);
-    done(&rt, builder.extend(1u8.encode()));
-    same(&rt, builder.extend(&basic), Err(EncodeError::CapturedMode));
-    same(
-        &rt,
-        builder.extend((2u8.encode(), &basic)),
-        Err(EncodeError::CapturedMode),
-    );
-    let unlawful = true.encode_as(Tag::END_OF_VALUE);
-    same(
-        &rt,
-        builder.extend((2u8.encode(), unlawful)),
-        Err(EncodeError::EndOfValueTag),
-    );
-    let captured = done(&rt, builder.freeze());
-    holds_from_start(&rt, rt.alloc(), captured, Mode::Der, &[0x02, 0x01, 0x01]);
-}
-
-/// Captures the INTEGER 5, which follows an empty OCTET STRING.
-fn behind_another(rt: &impl Abort, alloc: Global) -> Captured {
-    let octets = [0x04, 0x00, 0x02, 0x01, 0x05];
-    done(
-        rt,
-        Mode::Der.decode(SliceSource::new(&octets), |cons| second(cons, alloc)),
-    )
-}
-
-#[test]
-fn a_copy_stands_where_the_values_stood(rt: HostRuntime) {
-    let captured = behind_another(&rt, rt.alloc());
-    let copy = done(&rt, captured.clone());
-    shows(&rt, rt.alloc(), &copy.into_source().pos(), "2");
-    let copy = done(&rt, captured.clone());
-    let builder = done(&rt, copy.into_builder(rt.alloc()));
-    let again = done(&rt, builder.freeze());
-    holds_from_start(&rt, rt.alloc(), again, Mode::Der, &[0x02, 0x01, 0x05]);
-}
-
-#[test]
-fn more_behind_captured_values(rt: HostRuntime) {
-    let captured = behind_another(&rt, rt.alloc());
-    let mut builder = done(&rt, captured.into_builder(rt.alloc()));
-    done(&rt, builder.extend(6u8.encode()));
-    let wanted = [0x02, 0x01, 0x05, 0x02, 0x01, 0x06];
-    let captured = done(&rt, builder.freeze());
-    holds_from_start(&rt, rt.alloc(), captured, Mode::Der, &wanted);
-}
-
-/// Returns an INTEGER, nothing, and NULL, each captured.
-fn several(rt: &impl Abort, alloc: Global) -> Vec<Captured> {
-    let mut list = Vec::new(alloc);
-    done(
-        rt,
-        list.push(capture(rt, alloc, &[0x02, 0x01, 0x05], Mode::Der)),
-    );
-    done(rt, list.push(Captured::empty(alloc, Mode::Der)));
-    done(rt, list.push(capture(rt, alloc, &[0x05, 0x00], Mode::Der)));
-    list
-}
-
-#[test]
-fn several_captured_in_a_row(rt: HostRuntime) {
-    let list = several(&rt, rt.alloc());
-    let wanted = [0x30, 0x05, 0x02, 0x01, 0x05, 0x05, 0x00];
-    let whole = done(
-        &rt,
-        sequence(list.as_slice()).to_captured(rt.alloc(), Mode::Der),
-    );
-    holds_from_start(&rt, rt.alloc(), whole, Mode::Der, &wanted);
-    let whole = done(&rt, list.to_captured(rt.alloc(), Mode::Ber));
-    holds_from_start(&rt, rt.alloc(), whole, Mode::Ber, &wanted[2..]);
+    check_first(&Case::new(&rt, rt.alloc(), 0), &none);
 }

@@ -3,59 +3,12 @@
 
 ghost use Rattle.bcder.specs.calls.Views.{Moved};
 
-use crate::asserts::{done, holds, same};
-use crate::over::{shared, sip};
-use bcder::decode::{Constructed, ContentError, DecodeError, SliceSource, Source};
+use crate::asserts::{Case, done, holds, is_refused, same};
+use crate::over::{Row, check_all};
+use bcder::decode::{Constructed, DecodeError, SliceSource, Source};
 use bcder::{Captured, Mode};
 use std::alloc::Global;
 use std::process::Abort;
-
-/// Skips a value, then returns an error.
-fn skip_and_refuse<S: Source>(
-    cons: &mut Constructed<'_, S>,
-    alloc: Global,
-) -> Result<(), DecodeError<S::Error>>
-    ensures { Moved S.stream cons }
-{
-    cons.skip_one(alloc)?;
-    Err(cons.content_err(ContentError::from_static("refused")))
-}
-
-/// Checks that a refused capture leaves the INTEGER 5.
-fn take_five<S: Source>(
-    rt: &impl Abort,
-    alloc: Global,
-    cons: &mut Constructed<'_, S>,
-) -> Result<(), DecodeError<S::Error>>
-    ensures { Moved S.stream cons }
-{
-    let refused = cons.capture(alloc, |inner| skip_and_refuse(inner, alloc));
-    holds(
-        rt,
-        refused.is_err_and(|error| error.content_error().is_some()),
-    );
-    same(rt, cons.take_u8()?, 5);
-    Ok(())
-}
-
-fn check_refused<S: Source>(rt: &impl Abort, alloc: Global, source: &mut S) {
-    done(
-        rt,
-        Mode::Der.decode_lent(source, |cons| take_five(rt, alloc, cons)),
-    );
-    same(rt, done(rt, source.take_u8()), 0x04);
-    same(rt, done(rt, source.take_u8()), 0x00);
-    same(rt, done(rt, source.take_opt_u8()), None);
-}
-
-#[test]
-fn a_refused_capture_leaves_the_values(rt: HostRuntime) {
-    let alloc = rt.alloc();
-    let octets: &[u8] = &[0x02, 0x01, 0x05, 0x04, 0x00];
-    check_refused(&rt, alloc, &mut SliceSource::new(octets));
-    check_refused(&rt, alloc, &mut shared(&rt, alloc, octets));
-    check_refused(&rt, alloc, &mut sip(&rt, alloc, octets));
-}
 
 /// Captures all values.
 fn capture_values(rt: &impl Abort, alloc: Global, octets: &[u8], mode: Mode) -> Captured {
@@ -101,68 +54,92 @@ fn capture_each_inside<S: Source>(
     cons.take_sequence(|cons| capture_each(alloc, cons))
 }
 
-/// A mode, a SEQUENCE, and its values in order, or `None` if it is refused.
-type Line = (Mode, &'static [u8], Option<&'static [&'static [u8]]>);
+/// A mode, octets, whether they are a SEQUENCE or its content, and the values in order, or `None` if
+/// it is refused.
+#[derive(Clone, Copy)]
+struct Line(Mode, &'static [u8], bool, Option<&'static [&'static [u8]]>);
 
 /// Refused are a value that is cut, also after another, values without the end-of-contents octets
 /// that have to end them, and such octets where the length says that a value comes.
-const EACH: [Line; 8] = [
-    (Mode::Der, &[0x30, 0x00], Some(&[])),
-    (
+const LINES: [Line; 9] = [
+    Line(Mode::Der, &[0x30, 0x00], true, Some(&[])),
+    Line(
         Mode::Der,
         &[0x30, 0x05, 0x02, 0x01, 0x05, 0x05, 0x00],
+        true,
         Some(&[&[0x02, 0x01, 0x05], &[0x05, 0x00]]),
     ),
-    (Mode::Cer, &[0x30, 0x80, 0x00, 0x00], Some(&[])),
-    (
+    Line(Mode::Cer, &[0x30, 0x80, 0x00, 0x00], true, Some(&[])),
+    Line(
         Mode::Ber,
         &[
             0x30, 0x80, 0x30, 0x80, 0x02, 0x01, 0x05, 0x00, 0x00, 0x05, 0x00, 0x00, 0x00,
         ],
+        true,
         Some(&[&[0x30, 0x80, 0x02, 0x01, 0x05, 0x00, 0x00], &[0x05, 0x00]]),
     ),
-    (Mode::Der, &[0x30, 0x02, 0x05, 0x01], None),
-    (Mode::Der, &[0x30, 0x05, 0x05, 0x00, 0x02, 0x02, 0x05], None),
-    (Mode::Ber, &[0x30, 0x80, 0x05, 0x00], None),
-    (Mode::Ber, &[0x30, 0x02, 0x00, 0x00], None),
+    Line(Mode::Der, &[0x30, 0x02, 0x05, 0x01], true, None),
+    Line(
+        Mode::Der,
+        &[0x30, 0x05, 0x05, 0x00, 0x02, 0x02, 0x05],
+        true,
+        None,
+    ),
+    Line(Mode::Ber, &[0x30, 0x80, 0x05, 0x00], true, None),
+    Line(Mode::Ber, &[0x30, 0x02, 0x00, 0x00], true, None),
+    Line(
+        Mode::Der,
+        &[0x02, 0x01, 0x05, 0x30, 0x00],
+        false,
+        Some(&[&[0x02, 0x01, 0x05], &[0x30, 0x00]]),
+    ),
 ];
 
 /// Asserts that these are the octets that were captured.
-fn are_captured(rt: &impl Abort, found: &[Captured], wanted: &[&[u8]]) {
-    same(rt, found.len(), wanted.len());
+fn are_captured(case: &Case<'_, impl Abort>, found: &[Captured], wanted: &[&[u8]]) {
+    case.same(found.len(), wanted.len());
     for (found, wanted) in found.iter().zip(wanted.iter()) {
-        same(rt, found.as_slice(), *wanted);
+        case.same(found.as_slice(), *wanted);
     }
 }
 
-fn check_each<S: Source>(rt: &impl Abort, alloc: Global, source: &mut S, line: Line) {
-    let (mode, _, wanted) = line;
-    let found = mode.decode_lent(source, |cons| capture_each_inside(alloc, cons));
-    match (found, wanted) {
-        (Ok(found), Some(wanted)) => are_captured(rt, found.as_slice(), wanted),
-        (Err(error), None) => holds(rt, error.content_error().is_some()),
-        _ => holds(rt, false),
+/// Captures each value, inside a SEQUENCE or not.
+fn capture_some<S: Source>(
+    alloc: Global,
+    cons: &mut Constructed<'_, S>,
+    inside: bool,
+) -> Result<Vec<Captured>, DecodeError<S::Error>>
+    ensures { Moved S.stream cons }
+{
+    if inside {
+        capture_each_inside(alloc, cons)
+    } else {
+        capture_each(alloc, cons)
+    }
+}
+
+impl Row for Line {
+    fn octets(&self) -> &[u8] {
+        self.1
+    }
+
+    fn check<S: Source + Drop, R: Abort>(&self, case: &Case<'_, R>, source: S) {
+        let mut source = source;
+        let (alloc, inside) = (case.alloc, self.2);
+        let found = self
+            .0
+            .decode_lent(&mut source, |cons| capture_some(alloc, cons, inside));
+        match (found, self.3) {
+            (Ok(found), Some(wanted)) => are_captured(case, found.as_slice(), wanted),
+            (Err(error), None) => case.holds(error.content_error().is_some()),
+            _ => case.holds(false),
+        }
     }
 }
 
 #[test]
 fn each_value_is_captured(rt: HostRuntime) {
-    let alloc = rt.alloc();
-    for line in EACH {
-        check_each(&rt, alloc, &mut SliceSource::new(line.1), line);
-        check_each(&rt, alloc, &mut shared(&rt, alloc, line.1), line);
-        check_each(&rt, alloc, &mut sip(&rt, alloc, line.1), line);
-    }
-}
-
-/// Captures values up to the end of the octets.
-#[test]
-fn each_value_of_a_source_is_captured(rt: HostRuntime) {
-    let alloc = rt.alloc();
-    let mut source = SliceSource::new(&[0x02, 0x01, 0x05, 0x30, 0x00]);
-    let found = Mode::Der.decode_lent(&mut source, |cons| capture_each(alloc, cons));
-    let found = done(&rt, found);
-    are_captured(&rt, found.as_slice(), &[&[0x02, 0x01, 0x05], &[0x30, 0x00]]);
+    check_all(&rt, rt.alloc(), &LINES);
 }
 
 /// Drops the refusal of a capture, and then takes a number.
@@ -182,8 +159,5 @@ fn nothing_is_taken_after_a_refused_capture(rt: HostRuntime) {
     let alloc = rt.alloc();
     let mut source = SliceSource::new(&[0x30, 0x03, 0x02, 0x05, 0x01]);
     let refused = Mode::Der.decode_lent(&mut source, |cons| take_after_refusal(&rt, alloc, cons));
-    holds(
-        &rt,
-        refused.is_err_and(|error| error.content_error().is_some()),
-    );
+    holds(&rt, is_refused(refused));
 }

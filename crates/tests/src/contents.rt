@@ -3,12 +3,12 @@
 
 ghost use Rattle.bcder.specs.calls.Views.{Moved, MovedContent, MovedOctets};
 
-use crate::asserts::{done, holds, same, shows};
-use crate::over::{failing_sip, sip};
+use crate::asserts::{Case, done, holds, is_refused, shows};
+use crate::over::{Row, check_all, failing_sip};
+use bcder::Mode;
 use bcder::decode::{
     Constructed, Content, ContentError, DecodeError, Primitive, SliceSource, Source, walk,
 };
-use bcder::{Integer, Mode, OctetString};
 use std::alloc::{AllocError, Global};
 use std::fmt::Debug;
 use std::process::Abort;
@@ -36,88 +36,161 @@ fn pass_one<S: Source>(values: &mut Constructed<'_, S>) -> Result<(), DecodeErro
 /// is set.
 #[tactic(auto, using(bcder::specs::laws::Moved::steps))]
 fn check_octets<S: Source>(
-    rt: &impl Abort,
+    case: &Case<'_, impl Abort>,
     octets: &mut Primitive<'_, S>,
     mode: Mode,
 ) -> Result<(), DecodeError<S::Error>>
     ensures { MovedOctets S.stream octets }
 {
-    same(rt, octets.remaining(), 3);
-    same(rt, octets.mode(), mode);
+    case.same(octets.remaining(), 3);
+    case.same(octets.mode(), mode);
     octets.set_mode(Mode::Cer);
-    same(rt, octets.mode(), Mode::Cer);
+    case.same(octets.mode(), Mode::Cer);
     octets.skip_all()?;
-    same(rt, octets.remaining(), 0);
+    case.same(octets.remaining(), 0);
     Ok(())
 }
 
 /// Checks that another mode holds once it is set.
 #[tactic(auto, using(bcder::specs::laws::Moved::steps))]
 fn check_values<S: Source>(
-    rt: &impl Abort,
+    case: &Case<'_, impl Abort>,
     values: &mut Constructed<'_, S>,
     mode: Mode,
 ) -> Result<(), DecodeError<S::Error>>
     ensures { Moved S.stream values }
 {
-    same(rt, values.mode(), mode);
+    case.same(values.mode(), mode);
     values.set_mode(Mode::Cer);
-    same(rt, values.mode(), Mode::Cer);
+    case.same(values.mode(), Mode::Cer);
     pass_one(values)
 }
 
 /// Checks that content of one form is refused as content of the other, and stays.
 fn check_form<S: Source>(
-    rt: &impl Abort,
+    case: &Case<'_, impl Abort>,
     content: &mut Content<'_, S>,
     mode: Mode,
     primitive: bool,
 ) -> Result<(), DecodeError<S::Error>>
     ensures { MovedContent S.stream content }
 {
-    same(rt, content.mode(), mode);
-    same(rt, content.is_primitive(), primitive);
-    same(rt, content.is_constructed(), !primitive);
-    same(rt, content.as_primitive(|_| Ok(())).is_ok(), primitive);
-    same(rt, content.as_constructed(|_| Ok(())).is_ok(), !primitive);
+    case.same(content.mode(), mode);
+    case.same(content.is_primitive(), primitive);
+    case.same(content.is_constructed(), !primitive);
+    case.same(content.as_primitive(|_| Ok(())).is_ok(), primitive);
+    case.same(content.as_constructed(|_| Ok(())).is_ok(), !primitive);
     pass(content)
 }
 
 /// Checks content of both forms, first as it is, then asked for its form.
-fn check_all<S: Source>(
-    rt: &impl Abort,
+fn check_forms<S: Source>(
+    case: &Case<'_, impl Abort>,
     cons: &mut Constructed<'_, S>,
     mode: Mode,
 ) -> Result<(), DecodeError<S::Error>>
     ensures { Moved S.stream cons }
 {
-    cons.take_primitive(|_, octets| check_octets(rt, octets, mode))?;
-    same(rt, cons.mode(), mode);
-    cons.take_constructed(|_, values| check_values(rt, values, mode))?;
-    same(rt, cons.mode(), mode);
-    cons.take_value(|_, content| check_form(rt, content, mode, true))?;
-    cons.take_value(|_, content| check_form(rt, content, mode, false))
+    cons.take_primitive(|_, octets| check_octets(case, octets, mode))?;
+    case.same(cons.mode(), mode);
+    cons.take_constructed(|_, values| check_values(case, values, mode))?;
+    case.same(cons.mode(), mode);
+    cons.take_value(|_, content| check_form(case, content, mode, true))?;
+    cons.take_value(|_, content| check_form(case, content, mode, false))
 }
 
-/// Checks that content knows its mode, its form and how many octets it has left.
-#[test]
-fn content_tells_of_itself(rt: HostRuntime) {
-    let octets = &[
-        0x04, 0x03, 0x01, 0x02, 0x03, 0x30, 0x04, 0x30, 0x80, 0x00, 0x00, 0x02, 0x01, 0x05, 0x31,
-        0x02, 0x05, 0x00,
-    ];
-    for mode in [Mode::Ber, Mode::Der] {
-        let mut slice = SliceSource::new(octets);
-        done(
-            &rt,
-            mode.decode_lent(&mut slice, |cons| check_all(&rt, cons, mode)),
-        );
-        let mut sip = sip(&rt, rt.alloc(), octets);
-        done(
-            &rt,
-            mode.decode_lent(&mut sip, |cons| check_all(&rt, cons, mode)),
-        );
+/// Takes one value, and makes the content fail. Checks that no other value is taken then.
+fn fail_behind_one<S: Source>(
+    case: &Case<'_, impl Abort>,
+    cons: &mut Constructed<'_, S>,
+) -> Result<(), DecodeError<S::Error>>
+    ensures { Moved S.stream cons }
+{
+    pass_one(cons)?;
+    cons.fail();
+    let later = cons.take_opt_value(|_, content| pass(content));
+    case.holds(is_refused(later));
+    Ok(())
+}
+
+/// Takes two values at most and their end, and makes the content fail then.
+fn fail_behind_all<S: Source>(cons: &mut Constructed<'_, S>) -> Result<(), DecodeError<S::Error>>
+    ensures { Moved S.stream cons }
+{
+    walk(cons)?;
+    walk(cons)?;
+    walk(cons)?;
+    cons.fail();
+    Ok(())
+}
+
+/// What is done with content.
+#[derive(Clone, Copy)]
+enum Way {
+    /// Content of both forms is asked of itself.
+    Forms,
+
+    /// The content of a SEQUENCE is made to fail behind one value.
+    FailBehindOne,
+
+    /// The content of a SEQUENCE is made to fail behind all values, and their end.
+    FailBehindAll,
+}
+
+/// A mode, octets, what is done with their content, and whether that is taken then.
+#[derive(Clone, Copy)]
+struct Line(Mode, &'static [u8], Way, bool);
+
+/// An OCTET STRING, a SEQUENCE with one of indefinite length inside, an INTEGER, and a SET.
+const FORMS: &[u8] = &[
+    0x04, 0x03, 0x01, 0x02, 0x03, 0x30, 0x04, 0x30, 0x80, 0x00, 0x00, 0x02, 0x01, 0x05, 0x31, 0x02,
+    0x05, 0x00,
+];
+
+/// A SEQUENCE of two INTEGERs.
+const TWO: &[u8] = &[0x30, 0x06, 0x02, 0x01, 0x05, 0x02, 0x01, 0x06];
+
+/// Content knows its mode, its form and how many octets it has left. A SEQUENCE is refused if its
+/// content was made to fail, unless its end was taken before.
+const LINES: [Line; 5] = [
+    Line(Mode::Ber, FORMS, Way::Forms, true),
+    Line(Mode::Der, FORMS, Way::Forms, true),
+    Line(Mode::Der, TWO, Way::FailBehindOne, false),
+    Line(Mode::Der, TWO, Way::FailBehindAll, false),
+    Line(
+        Mode::Ber,
+        &[0x30, 0x80, 0x02, 0x01, 0x05, 0x00, 0x00],
+        Way::FailBehindAll,
+        true,
+    ),
+];
+
+impl Row for Line {
+    fn octets(&self) -> &[u8] {
+        self.1
     }
+
+    fn check<S: Source + Drop, R: Abort>(&self, case: &Case<'_, R>, source: S) {
+        let mode = self.0;
+        let outcome = match self.2 {
+            Way::Forms => mode.decode(source, |cons| check_forms(case, cons, mode)),
+            Way::FailBehindOne => mode.decode(source, |cons| {
+                cons.take_sequence(|inner| fail_behind_one(case, inner))
+            }),
+            Way::FailBehindAll => mode.decode(source, |cons| {
+                cons.take_sequence(|inner| fail_behind_all(inner))
+            }),
+        };
+        match outcome {
+            Ok(()) => case.holds(self.3),
+            Err(error) => case.holds(!self.3 && error.content_error().is_some()),
+        }
+    }
+}
+
+#[test]
+fn content_of_itself_and_failed(rt: HostRuntime) {
+    check_all(&rt, rt.alloc(), &LINES);
 }
 
 /// Takes a value, and drops the error if the source fails. Checks that no other value is taken
@@ -129,10 +202,7 @@ fn take_failing<S: Source>(rt: &impl Abort, cons: &mut Constructed<'_, S>)
     if let Err(error) = cons.take_primitive(|_, octets| octets.skip_all()) {
         holds(rt, error.is_source());
         let later = cons.take_opt_value(|_, content| pass(content));
-        holds(
-            rt,
-            later.is_err_and(|error| error.content_error().is_some()),
-        );
+        holds(rt, is_refused(later));
     }
 }
 
@@ -148,10 +218,7 @@ fn enter_failing<S: Source>(rt: &impl Abort, cons: &mut Constructed<'_, S>)
     });
     if entered.is_err() {
         let later = cons.take_opt_value(|_, content| pass(content));
-        holds(
-            rt,
-            later.is_err_and(|error| error.content_error().is_some()),
-        );
+        holds(rt, is_refused(later));
     }
 }
 
@@ -170,76 +237,6 @@ fn failed_sources_fail_content(rt: HostRuntime) {
         holds(&rt, failing > 1 || decoded.is_err());
         holds(&rt, failing < last || decoded.is_ok());
     }
-}
-
-/// An INTEGER with a spare octet (X.690, 8.3.2), and an OCTET STRING in segments in DER (10.2).
-const NO_VALUES: [&[u8]; 2] = [&[0x02, 0x02, 0x00, 0x05], &[0x24, 0x03, 0x04, 0x01, 0xAA]];
-
-/// They are encodings by their headers and lengths, and the readers of their types refuse them.
-#[test]
-fn encodings_that_are_no_values(rt: HostRuntime) {
-    let alloc = rt.alloc();
-    for octets in NO_VALUES {
-        let walked = Mode::Der.decode(octets, |cons| walk(cons));
-        same(&rt, done(&rt, walked), Some(()));
-    }
-    let integer = Mode::Der.decode(NO_VALUES[0], |cons| Integer::take_from(alloc, cons));
-    let refused = integer.err().expect(&rt, "a spare octet");
-    holds(&rt, refused.content_error().is_some());
-    let string = Mode::Der.decode(NO_VALUES[1], |cons| OctetString::take_from(alloc, cons));
-    let refused = string.err().expect(&rt, "segments in DER");
-    holds(&rt, refused.content_error().is_some());
-}
-
-/// Takes one value, and makes the content fail. Checks that no other value is taken then.
-fn fail_behind_one<S: Source>(
-    rt: &impl Abort,
-    cons: &mut Constructed<'_, S>,
-) -> Result<(), DecodeError<S::Error>>
-    ensures { Moved S.stream cons }
-{
-    pass_one(cons)?;
-    cons.fail();
-    let later = cons.take_opt_value(|_, content| pass(content));
-    holds(
-        rt,
-        later.is_err_and(|error| error.content_error().is_some()),
-    );
-    Ok(())
-}
-
-/// Takes two values at most and their end, and makes the content fail then.
-fn fail_behind_all<S: Source>(cons: &mut Constructed<'_, S>) -> Result<(), DecodeError<S::Error>>
-    ensures { Moved S.stream cons }
-{
-    walk(cons)?;
-    walk(cons)?;
-    walk(cons)?;
-    cons.fail();
-    Ok(())
-}
-
-/// A SEQUENCE is refused if its content was made to fail, unless its end was taken before.
-#[test]
-fn content_that_is_made_to_fail(rt: HostRuntime) {
-    let definite: &[u8] = &[0x30, 0x06, 0x02, 0x01, 0x05, 0x02, 0x01, 0x06];
-    let found = Mode::Der.decode(definite, |cons| {
-        cons.take_sequence(|inner| fail_behind_one(&rt, inner))
-    });
-    let refused = found.err().expect(&rt, "failed content");
-    holds(&rt, refused.content_error().is_some());
-    let found = Mode::Der.decode(definite, |cons| {
-        cons.take_sequence(|inner| fail_behind_all(inner))
-    });
-    holds(
-        &rt,
-        found.is_err_and(|error| error.content_error().is_some()),
-    );
-    let indefinite: &[u8] = &[0x30, 0x80, 0x02, 0x01, 0x05, 0x00, 0x00];
-    let found = Mode::Ber.decode(indefinite, |cons| {
-        cons.take_sequence(|inner| fail_behind_all(inner))
-    });
-    done(&rt, found);
 }
 
 /// Takes one value, and refuses the next.

@@ -4,11 +4,10 @@
 
 ghost use Rattle.bcder.specs.calls.Views.{Moved};
 
-use crate::asserts::{done, holds, same};
-use crate::over::sip;
-use bcder::decode::{BytesSource, Constructed, ContentError, DecodeError, SliceSource, Source};
+use crate::asserts::{Case, done};
+use crate::over::{Row, check_over};
+use bcder::decode::{Constructed, ContentError, DecodeError, Source};
 use bcder::{Mode, Tag};
-use bytes::Bytes;
 use std::alloc::Global;
 use std::process::Abort;
 
@@ -49,63 +48,25 @@ fn skip_told<S: Source>(
     cons.skip(alloc, &mut op)
 }
 
-/// Checks that the value is skipped up to the end of the source, or refused for its octets, after
-/// this number of calls, one for each level, at its depth.
-fn check<S: Source>(
-    rt: &impl Abort,
-    alloc: Global,
-    source: &mut S,
-    mode: Mode,
-    skipped: bool,
-    calls: usize,
-) {
-    let mut told = Told {
-        calls: 0,
-        nested: true,
-    };
-    match mode.decode_lent(source, |cons| skip_told(cons, alloc, &mut told)) {
-        Ok(()) => {
-            holds(rt, skipped);
-            same(rt, done(rt, source.take_opt_u8()), None);
-        }
-        Err(error) => holds(rt, !skipped && error.content_error().is_some()),
-    }
-    same(rt, told.calls, calls);
-    holds(rt, told.nested);
-}
-
-/// Checks that the next value is captured whole, or refused for its octets.
-fn capture_whole<S: Source>(
-    rt: &impl Abort,
-    alloc: Global,
+/// Captures the next value, and returns how many octets it has, or `None` if it is refused for its
+/// octets.
+fn capture_len<S: Source>(
+    case: &Case<'_, impl Abort>,
     cons: &mut Constructed<'_, S>,
     octets: &[u8],
-    captured: bool,
-) -> Result<(), DecodeError<S::Error>>
+) -> Option<usize>
     ensures { Moved S.stream cons }
 {
-    match cons.capture_one(alloc) {
-        Ok(values) => holds(rt, captured && values.as_slice() == octets),
-        Err(error) => holds(rt, !captured && error.content_error().is_some()),
+    match cons.capture_one(case.alloc) {
+        Ok(values) => {
+            case.holds(values.as_slice() == octets);
+            Some(values.len())
+        }
+        Err(error) => {
+            case.holds(error.content_error().is_some());
+            None
+        }
     }
-    Ok(())
-}
-
-/// Checks that the value is captured up to the end of the source, or refused and all is left.
-fn check_captured<S: Source>(
-    rt: &impl Abort,
-    alloc: Global,
-    source: &mut S,
-    mode: Mode,
-    octets: &[u8],
-    captured: bool,
-) {
-    let decoded = mode.decode_lent(source, |cons| {
-        capture_whole(rt, alloc, cons, octets, captured)
-    });
-    done(rt, decoded);
-    let left = if captured { 0 } else { octets.len() };
-    same(rt, done(rt, source.skip(octets.len())), left);
 }
 
 /// Returns sequences of indefinite length, each inside the one before it.
@@ -120,7 +81,9 @@ fn nested(rt: &impl Abort, alloc: Global) -> Vec<u8> {
 
 /// How many octets of the nested sequences are there, the mode, whether they are skipped, and after
 /// how many calls that ends. Each level has two octets at its beginning and two at its end.
-const ROWS: [(usize, Mode, bool, usize); 5] = [
+type Line = (usize, Mode, bool, usize);
+
+const LINES: [Line; 5] = [
     (4 * LEVELS, Mode::Ber, true, LEVELS),
     (4 * LEVELS, Mode::Cer, true, LEVELS),
     (4 * LEVELS, Mode::Der, false, 0),
@@ -128,39 +91,62 @@ const ROWS: [(usize, Mode, bool, usize); 5] = [
     (2 * LEVELS, Mode::Ber, false, LEVELS),
 ];
 
-#[test]
-fn over_borrowed_octets(rt: HostRuntime) {
-    let octets = nested(&rt, rt.alloc());
-    for (len, mode, skipped, calls) in ROWS {
-        let front = &octets[..len.min(octets.len())];
-        let mut source = SliceSource::new(front);
-        check(&rt, rt.alloc(), &mut source, mode, skipped, calls);
-        let mut source = SliceSource::new(front);
-        check_captured(&rt, rt.alloc(), &mut source, mode, front, skipped);
+/// Octets that are skipped up to the end of the source, or refused for what they are, after a number
+/// of calls, one for each level, at its depth.
+#[derive(Clone, Copy)]
+struct Skipped<'a>(&'a [u8], Line);
+
+/// Octets that are captured up to the end of the source, or refused, so that all are left.
+#[derive(Clone, Copy)]
+struct Captured<'a>(&'a [u8], Line);
+
+impl Row for Skipped<'_> {
+    fn octets(&self) -> &[u8] {
+        self.0
+    }
+
+    fn check<S: Source + Drop, R: Abort>(&self, case: &Case<'_, R>, source: S) {
+        let mut source = source;
+        let (_, mode, skipped, calls) = self.1;
+        let mut told = Told {
+            calls: 0,
+            nested: true,
+        };
+        match mode.decode_lent(&mut source, |cons| skip_told(cons, case.alloc, &mut told)) {
+            Ok(()) => {
+                case.holds(skipped);
+                case.same(case.done(source.take_opt_u8()), None);
+            }
+            Err(error) => case.holds(!skipped && error.content_error().is_some()),
+        }
+        case.same(told.calls, calls);
+        case.holds(told.nested);
+    }
+}
+
+impl Row for Captured<'_> {
+    fn octets(&self) -> &[u8] {
+        self.0
+    }
+
+    fn check<S: Source + Drop, R: Abort>(&self, case: &Case<'_, R>, source: S) {
+        let mut source = source;
+        let (_, mode, captured, _) = self.1;
+        let all = self.0.len();
+        let found = mode.decode_lent(&mut source, |cons| Ok(capture_len(case, cons, self.0)));
+        let wanted = if captured { Some(all) } else { None };
+        case.same(case.done(found), wanted);
+        let left = if captured { 0 } else { all };
+        case.same(case.done(source.skip(all)), left);
     }
 }
 
 #[test]
-fn over_shared_octets(rt: HostRuntime) {
+fn nested_sequences(rt: HostRuntime) {
     let octets = nested(&rt, rt.alloc());
-    for (len, mode, skipped, calls) in ROWS {
-        let front = &octets[..len.min(octets.len())];
-        let shared = done(&rt, Bytes::copy_from_slice(rt.alloc(), front));
-        let mut source = BytesSource::new(done(&rt, shared.clone()));
-        check(&rt, rt.alloc(), &mut source, mode, skipped, calls);
-        let mut source = BytesSource::new(shared);
-        check_captured(&rt, rt.alloc(), &mut source, mode, front, skipped);
-    }
-}
-
-#[test]
-fn over_what_was_asked_for(rt: HostRuntime) {
-    let octets = nested(&rt, rt.alloc());
-    for (len, mode, skipped, calls) in ROWS {
-        let front = &octets[..len.min(octets.len())];
-        let mut source = sip(&rt, rt.alloc(), front);
-        check(&rt, rt.alloc(), &mut source, mode, skipped, calls);
-        let mut source = sip(&rt, rt.alloc(), front);
-        check_captured(&rt, rt.alloc(), &mut source, mode, front, skipped);
+    for (number, line) in LINES.iter().enumerate() {
+        let front = &octets[..line.0.min(octets.len())];
+        check_over(&rt, rt.alloc(), number, &Skipped(front, *line));
+        check_over(&rt, rt.alloc(), number, &Captured(front, *line));
     }
 }

@@ -3,8 +3,8 @@
 
 ghost use Rattle.bcder.specs.calls.Views.{Moved, MovedOctets};
 
-use crate::asserts::{done, holds, same, shows};
-use crate::over::{shared, sip};
+use crate::asserts::{Case, done, holds, same, shows};
+use crate::over::sip;
 use bcder::decode::{Constructed, ContentError, DecodeError, Primitive, SliceSource, Source};
 use bcder::int::{IntegerError, InvalidInteger, OverflowError};
 use bcder::{Integer, Mode, Tag, Unsigned};
@@ -15,19 +15,6 @@ use std::hash::{DefaultHasher, Hash, Hasher};
 use std::process::Abort;
 
 // ---- reading octets
-
-/// Returns which refusal it is: of another number, of another tag, or one of the library's own.
-fn kind<T: Drop, E: Drop>(outcome: Result<T, DecodeError<E>>) -> u8 {
-    match outcome {
-        Ok(_) => 0,
-        Err(error) => match error.content_error() {
-            Some(ContentError::ExpectedInteger(_)) => 1,
-            Some(ContentError::ExpectedTag(_)) => 2,
-            Some(ContentError::Static(_)) => 3,
-            _ => 4,
-        },
-    }
-}
 
 /// Checks that a reader that refuses leaves the octets to the next one.
 fn read_twice<S: Source>(
@@ -46,7 +33,11 @@ fn a_refused_reader_takes_nothing(rt: HostRuntime) {
     let read = Primitive::decode_slice(&[0x01, 0x00], Mode::Der, |p| read_twice(&rt, p));
     same(&rt, done(&rt, read), 256);
     let left = Primitive::decode_slice(&[0x01, 0x00], Mode::Der, |p| Ok(p.remaining()));
-    same(&rt, kind(left), 3);
+    let refused = left.err().expect(&rt, "octets that are left");
+    holds(
+        &rt,
+        matches!(refused.content_error(), Some(ContentError::Static(_))),
+    );
 }
 
 /// Returns the boolean that octets are.
@@ -57,17 +48,25 @@ fn truth(octets: &[u8], mode: Mode) -> Option<bool> {
     }
 }
 
+/// Contents octets, and the boolean that they are in BER, CER and DER.
+const TRUTHS: [(&[u8], [Option<bool>; 3]); 5] = [
+    (&[0x00], [Some(false); 3]),
+    (&[0xFF], [Some(true); 3]),
+    (&[0x00, 0x00], [None; 3]),
+    (&[], [None; 3]),
+    (&[0x01], [Some(true), None, None]),
+];
+
 #[test]
 fn booleans(rt: HostRuntime) {
-    for mode in [Mode::Ber, Mode::Cer, Mode::Der] {
-        same(&rt, truth(&[0x00], mode), Some(false));
-        same(&rt, truth(&[0xFF], mode), Some(true));
-        same(&rt, truth(&[0x00, 0x00], mode), None);
-        same(&rt, truth(&[], mode), None);
+    for (row, (octets, wanted)) in TRUTHS.iter().enumerate() {
+        let found = [
+            truth(*octets, Mode::Ber),
+            truth(*octets, Mode::Cer),
+            truth(*octets, Mode::Der),
+        ];
+        Case::new(&rt, rt.alloc(), row).same(found, *wanted);
     }
-    same(&rt, truth(&[0x01], Mode::Ber), Some(true));
-    same(&rt, truth(&[0x01], Mode::Cer), None);
-    same(&rt, truth(&[0x01], Mode::Der), None);
 }
 
 /// Checks all octets, taken and borrowed.
@@ -123,122 +122,17 @@ fn octets_that_are_looked_at(rt: HostRuntime) {
     same(&rt, done(&rt, taken).as_slice(), &octets);
 }
 
-// ---- taking values
-
-/// Takes `02 01 05` after calls for other tags.
-fn take_five<S: Source>(
-    rt: &impl Abort,
-    cons: &mut Constructed<'_, S>,
-) -> Result<(), DecodeError<S::Error>>
-    ensures { Moved S.stream cons }
-{
-    same(rt, cons.take_opt_bool()?, None);
-    same(rt, kind(cons.take_bool()), 2);
-    cons.take_opt_null()?;
-    same(rt, cons.take_u8()?, 5);
-    same(rt, cons.take_opt_u64()?, None);
-    Ok(())
-}
-
-/// Skips the INTEGER 200.
-fn skip_200<S: Source>(cons: &mut Constructed<'_, S>) -> u8
-    ensures { Moved S.stream cons }
-{
-    kind(cons.skip_u8_if(200))
-}
-
-/// Skips the INTEGER 200, if there is an INTEGER.
-fn skip_opt_200<S: Source>(cons: &mut Constructed<'_, S>) -> u8
-    ensures { Moved S.stream cons }
-{
-    kind(cons.skip_opt_u8_if(200))
-}
-
-fn take_null<S: Source>(cons: &mut Constructed<'_, S>) -> u8
-    ensures { Moved S.stream cons }
-{
-    kind(cons.take_null())
-}
-
-#[test]
-fn takes(rt: HostRuntime) {
-    let five: &[u8] = &[0x02, 0x01, 0x05];
-    let mut slice = SliceSource::new(five);
-    done(
-        &rt,
-        Mode::Der.decode_lent(&mut slice, |cons| take_five(&rt, cons)),
-    );
-    let mut shared = shared(&rt, rt.alloc(), five);
-    done(
-        &rt,
-        Mode::Der.decode_lent(&mut shared, |cons| take_five(&rt, cons)),
-    );
-    let mut sip = sip(&rt, rt.alloc(), five);
-    done(
-        &rt,
-        Mode::Der.decode_lent(&mut sip, |cons| take_five(&rt, cons)),
-    );
-}
-
-/// Returns the kind of refusal of `skip_u8_if(200)`, from a slice.
-fn skipped(octets: &[u8]) -> u8 {
-    match Mode::Der.decode_lent(&mut SliceSource::new(octets), |cons| Ok(skip_200(cons))) {
-        Ok(kind) => kind,
-        Err(_) => 5,
-    }
-}
-
-/// Returns the kind of refusal of `skip_opt_u8_if(200)`, from a slice. `decode` may refuse too.
-fn skipped_opt(octets: &[u8]) -> u8 {
-    match Mode::Der.decode_lent(&mut SliceSource::new(octets), |cons| Ok(skip_opt_200(cons))) {
-        Ok(kind) => kind,
-        Err(_) => 5,
-    }
-}
-
-#[test]
-fn skips_of_a_number(rt: HostRuntime) {
-    same(&rt, skipped(&[0x02, 0x02, 0x00, 0xC8]), 0);
-    same(&rt, skipped(&[0x02, 0x01, 0xC8]), 5);
-    same(&rt, skipped(&[0x04, 0x00]), 2);
-    same(&rt, skipped_opt(&[0x02, 0x02, 0x00, 0xC8]), 0);
-    same(&rt, skipped_opt(&[0x04, 0x00]), 0);
-    same(&rt, skipped_opt(&[]), 0);
-}
-
-/// Checks that the refusal of another number names the one that was expected.
-#[test]
-fn another_number_is_named(rt: HostRuntime) {
-    let mut source = SliceSource::new(&[0x02, 0x01, 0x05]);
-    let outcome = Mode::Der.decode_lent(&mut source, |cons| cons.skip_u8_if(200));
-    holds(&rt, outcome.is_err());
-    if let Err(error) = outcome {
-        holds(&rt, error.content_error().is_some());
-        if let Some(error) = error.content_error() {
-            shows(&rt, rt.alloc(), error, "expected integer value 200");
-        }
-    }
-}
-
-fn nulled(octets: &[u8]) -> u8 {
-    match Mode::Der.decode_lent(&mut SliceSource::new(octets), |cons| Ok(take_null(cons))) {
-        Ok(kind) => kind,
-        Err(_) => 5,
-    }
-}
-
-#[test]
-fn nulls(rt: HostRuntime) {
-    same(&rt, nulled(&[0x05, 0x00]), 0);
-    same(&rt, nulled(&[0x05, 0x01, 0x00]), 5);
-    same(&rt, nulled(&[0x02, 0x01, 0x00]), 2);
-    same(&rt, nulled(&[]), 2);
-}
-
 // ---- integers
 
-/// Numbers in ascending order, with their contents octets.
-const ORDERED: [(i128, &[u8]); 11] = [
+/// A number, and its contents octets.
+type Line = (i128, &'static [u8]);
+
+/// Numbers in ascending order.
+const ORDERED: [Line; 13] = [
+    (
+        i128::MIN,
+        &[0x80, 0, 0, 0, 0, 0, 0, 0, 0, 0, 0, 0, 0, 0, 0, 0],
+    ),
     (-32769, &[0xFF, 0x7F, 0xFF]),
     (-32768, &[0x80, 0x00]),
     (-129, &[0xFF, 0x7F]),
@@ -250,7 +144,26 @@ const ORDERED: [(i128, &[u8]); 11] = [
     (128, &[0x00, 0x80]),
     (32768, &[0x00, 0x80, 0x00]),
     (65536, &[0x01, 0x00, 0x00]),
+    (
+        i128::MAX,
+        &[
+            0x7F, 0xFF, 0xFF, 0xFF, 0xFF, 0xFF, 0xFF, 0xFF, 0xFF, 0xFF, 0xFF, 0xFF, 0xFF, 0xFF,
+            0xFF, 0xFF,
+        ],
+    ),
 ];
+
+/// Checks the octets and the sign of a number, and that it is read back.
+fn check_number(case: &Case<'_, impl Abort>, line: Line) {
+    let (number, octets) = line;
+    let integer = case.done(Integer::from_i128(case.alloc, number));
+    case.same(integer.as_slice(), octets);
+    case.same(integer.is_zero(), number == 0);
+    case.same(integer.is_positive(), number > 0);
+    case.same(integer.is_negative(), number < 0);
+    case.holds(case.done(integer.clone()) == integer);
+    case.same(i128::try_from(integer), Ok(number));
+}
 
 fn hash_of(integer: &Integer) -> u64 {
     let mut hasher = DefaultHasher::new();
@@ -259,82 +172,50 @@ fn hash_of(integer: &Integer) -> u64 {
 }
 
 /// Checks that two of them are compared as their numbers are.
-fn check_pair(rt: &impl Abort, alloc: Global, one: (i128, &[u8]), other: (i128, &[u8])) {
-    let x = done(rt, Integer::from_i128(alloc, one.0));
-    let y = done(rt, Integer::from_i128(alloc, other.0));
-    same(rt, x.as_slice(), one.1);
-    same(rt, x.cmp(&y), one.0.cmp(&other.0));
-    same(rt, x == y, one.0 == other.0);
-    holds(rt, x != y || hash_of(&x) == hash_of(&y));
+fn check_pair(case: &Case<'_, impl Abort>, one: i128, other: i128) {
+    let x = case.done(Integer::from_i128(case.alloc, one));
+    let y = case.done(Integer::from_i128(case.alloc, other));
+    case.same(x.cmp(&y), one.cmp(&other));
+    case.same(x == y, one == other);
+    case.same(hash_of(&x) == hash_of(&y), one == other);
 }
 
 #[test]
 fn integers_in_their_order(rt: HostRuntime) {
-    for one in ORDERED {
+    for (row, one) in ORDERED.iter().enumerate() {
+        let case = Case::new(&rt, rt.alloc(), row);
+        check_number(&case, *one);
         for other in ORDERED {
-            check_pair(&rt, rt.alloc(), one, other);
+            check_pair(&case, one.0, other.0);
         }
     }
 }
 
-fn check_signs(rt: &impl Abort, alloc: Global, number: i128) {
-    let integer = done(rt, Integer::from_i128(alloc, number));
-    same(rt, integer.is_zero(), number == 0);
-    same(rt, integer.is_positive(), number > 0);
-    same(rt, integer.is_negative(), number < 0);
-    same(rt, done(rt, integer.clone()), integer);
-}
-
 #[test]
-fn signs(rt: HostRuntime) {
-    for (number, _) in ORDERED {
-        check_signs(&rt, rt.alloc(), number);
-    }
-    check_signs(&rt, rt.alloc(), i128::MIN);
-    check_signs(&rt, rt.alloc(), i128::MAX);
-}
-
-#[test]
-fn the_ends_of_the_largest_types(rt: HostRuntime) {
-    let alloc = rt.alloc();
-    let least = done(&rt, Integer::from_i128(alloc, i128::MIN));
-    same(&rt, least.as_slice().len(), 16);
-    same(&rt, i128::try_from(&least), Ok(i128::MIN));
-    let most = done(&rt, Integer::from_u128(alloc, u128::MAX));
-    same(&rt, most.as_slice().len(), 17);
-    same(&rt, u128::try_from(&most), Ok(u128::MAX));
+fn a_number_that_is_too_large(rt: HostRuntime) {
+    let most = done(&rt, Integer::from_u128(rt.alloc(), u128::MAX));
     same(&rt, i128::try_from(most), Err(OverflowError));
 }
 
-/// Checks the octets of the unsigned number that octets are.
-fn check_unsigned(rt: &impl Abort, alloc: Global, octets: &[u8], wanted: &[u8]) {
-    let copied = done(rt, Unsigned::from_slice(alloc, octets));
-    same(rt, copied.as_slice(), wanted);
-    let octets = done(rt, Bytes::copy_from_slice(alloc, octets));
-    let shared = done(rt, Unsigned::from_bytes(alloc, octets));
-    same(rt, shared.as_slice(), wanted);
-    holds(rt, copied == shared);
-}
+/// Octets, and those of the unsigned number that they are.
+const UNSIGNED: [(&[u8], &[u8]); 5] = [
+    (&[0xFF], &[0x00, 0xFF]),
+    (&[0x00, 0xFF], &[0x00, 0xFF]),
+    (&[0x00, 0x00, 0xFF], &[0x00, 0xFF]),
+    (&[0x00, 0x00, 0x7F, 0x00], &[0x7F, 0x00]),
+    (&[0x00, 0x00], &[0x00]),
+];
 
 #[test]
 fn unsigned_integers(rt: HostRuntime) {
-    let alloc = rt.alloc();
-    check_unsigned(&rt, alloc, &[0xFF], &[0x00, 0xFF]);
-    check_unsigned(&rt, alloc, &[0x00, 0xFF], &[0x00, 0xFF]);
-    check_unsigned(&rt, alloc, &[0x00, 0x00, 0xFF], &[0x00, 0xFF]);
-    check_unsigned(&rt, alloc, &[0x00, 0x00, 0x7F, 0x00], &[0x7F, 0x00]);
-    check_unsigned(&rt, alloc, &[0x00, 0x00], &[0x00]);
-}
-
-#[test]
-fn unsigned_integers_of_nothing(rt: HostRuntime) {
-    let invalid = Some(IntegerError::Invalid(InvalidInteger));
-    same(&rt, Unsigned::from_slice(rt.alloc(), &[]).err(), invalid);
-    same(
-        &rt,
-        Unsigned::from_bytes(rt.alloc(), Bytes::new()).err(),
-        invalid,
-    );
+    for (row, (octets, wanted)) in UNSIGNED.iter().enumerate() {
+        let case = Case::new(&rt, rt.alloc(), row);
+        let copied = case.done(Unsigned::from_slice(rt.alloc(), *octets));
+        case.same(copied.as_slice(), *wanted);
+        let octets = case.done(Bytes::copy_from_slice(rt.alloc(), *octets));
+        let shared = case.done(Unsigned::from_bytes(rt.alloc(), octets));
+        case.holds(copied == shared);
+    }
 }
 
 #[test]

@@ -2,7 +2,7 @@
 //! `vectors` and `values`.
 //!
 //! There is one module for each subject, and each also runs over the source of `support`. Tests of
-//! strings and of failures are in `strings` and `failures`.
+//! failures are in a crate of their own.
 #![tactic(auto)]
 
 #[cfg(test)]
@@ -32,9 +32,9 @@ mod over;
 #[cfg(test)]
 mod refusals;
 #[cfg(test)]
-mod skips;
-#[cfg(test)]
 mod sources;
+#[cfg(test)]
+mod strings;
 #[cfg(test)]
 mod tag_names;
 #[cfg(test)]

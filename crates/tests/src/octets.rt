@@ -4,12 +4,13 @@
 
 ghost use Rattle.bcder.specs.calls.Views.{MovedOctets};
 
-use crate::asserts::{done, holds, same};
-use crate::over::{failing_sip, failing_whole, shared, sip};
+use crate::asserts::Case;
+use crate::over::{Row, check_all, failing_sip, failing_whole};
 use bcder::Mode;
-use bcder::decode::{DecodeError, Primitive, SliceSource, Source};
+use bcder::decode::{DecodeError, Primitive, Source};
 use std::process::Abort;
 use support::calls::Answer;
+use support::sip::Sip;
 
 /// A call that takes contents octets, or skips this number of them.
 #[derive(Clone, Copy)]
@@ -24,10 +25,11 @@ type Step = (Call, Answer, usize);
 
 /// Octets, calls on the contents octets of the first value, and whether that ends as it should, so
 /// that the next value is left.
-type Line = (&'static [u8], [Step; 4], bool);
+#[derive(Clone, Copy)]
+struct Line(&'static [u8], [Step; 4], bool);
 
 const LINES: [Line; 6] = [
-    (
+    Line(
         &[0x04, 0x03, 0x61, 0x62, 0x63, 0x05, 0x00],
         [
             (Call::Octet, Answer::Number(0x61), 2),
@@ -37,7 +39,7 @@ const LINES: [Line; 6] = [
         ],
         true,
     ),
-    (
+    Line(
         &[0x04, 0x03, 0x61, 0x62, 0x63, 0x05, 0x00],
         [
             (Call::Skip(3), Answer::Number(3), 0),
@@ -47,7 +49,7 @@ const LINES: [Line; 6] = [
         ],
         true,
     ),
-    (
+    Line(
         &[0x04, 0x03, 0x61, 0x62, 0x63, 0x05, 0x00],
         [
             (Call::OptOctet, Answer::Number(0x61), 2),
@@ -57,7 +59,7 @@ const LINES: [Line; 6] = [
         ],
         true,
     ),
-    (
+    Line(
         &[0x04, 0x00, 0x05, 0x00],
         [
             (Call::Octet, Answer::Refused, 0),
@@ -67,7 +69,7 @@ const LINES: [Line; 6] = [
         ],
         true,
     ),
-    (
+    Line(
         &[0x04, 0x03, 0x61],
         [
             (Call::Octet, Answer::Number(0x61), 2),
@@ -77,7 +79,7 @@ const LINES: [Line; 6] = [
         ],
         false,
     ),
-    (
+    Line(
         &[0x04, 0x03, 0x61, 0x62, 0x63],
         [
             (Call::Skip(0), Answer::Number(0), 3),
@@ -110,7 +112,7 @@ fn ask<S: Source>(octets: &mut Primitive<'_, S>, call: Call) -> Result<Answer, S
 /// Makes a call. If the source fails, no octet is taken, and the call gives its usual result when
 /// it is made again.
 fn take_step<S: Source>(
-    rt: &impl Abort,
+    case: &Case<'_, impl Abort>,
     octets: &mut Primitive<'_, S>,
     step: Step,
 ) -> Result<(), DecodeError<S::Error>>
@@ -120,76 +122,85 @@ fn take_step<S: Source>(
     let before = octets.remaining();
     let outcome = ask(octets, call);
     if let Err(error) = outcome {
-        same(rt, octets.remaining(), before);
-        same(rt, ask(octets, call).ok(), Some(wanted));
+        case.same(octets.remaining(), before);
+        case.same(ask(octets, call).ok(), Some(wanted));
         return Err(DecodeError::Source(error));
     }
-    same(rt, outcome.ok(), Some(wanted));
-    same(rt, octets.remaining(), owed);
+    case.same(outcome.ok(), Some(wanted));
+    case.same(octets.remaining(), owed);
     Ok(())
 }
 
 /// Makes all calls of a line.
 fn take_steps<S: Source>(
-    rt: &impl Abort,
+    case: &Case<'_, impl Abort>,
     octets: &mut Primitive<'_, S>,
     steps: [Step; 4],
 ) -> Result<(), DecodeError<S::Error>>
     ensures { MovedOctets S.stream octets }
 {
     let [first, second, third, fourth] = steps;
-    take_step(rt, octets, first)?;
-    take_step(rt, octets, second)?;
-    take_step(rt, octets, third)?;
-    take_step(rt, octets, fourth)
+    take_step(case, octets, first)?;
+    take_step(case, octets, second)?;
+    take_step(case, octets, third)?;
+    take_step(case, octets, fourth)
 }
 
 /// Makes the calls of a line on the next value, and returns whether the source failed.
-fn check<S: Source>(rt: &impl Abort, source: &mut S, line: Line) -> bool {
-    let (_, steps, whole) = line;
+fn struck<S: Source>(case: &Case<'_, impl Abort>, source: &mut S, line: &Line) -> bool {
+    let steps = line.1;
     let outcome = Mode::Ber.decode_lent(source, |cons| {
-        cons.take_primitive(|_tag, octets| take_steps(rt, octets, steps))
+        cons.take_primitive(|_tag, octets| take_steps(case, octets, steps))
     });
     match outcome {
-        Ok(()) => holds(rt, whole),
+        Ok(()) => case.holds(line.2),
         Err(error) if error.is_source() => return true,
-        Err(error) => holds(rt, !whole && error.content_error().is_some()),
+        Err(error) => case.holds(!line.2 && error.content_error().is_some()),
     }
     false
 }
 
-/// Makes the calls of a line over a source that doesn't fail, and checks that the next value is
-/// left.
-fn check_whole<S: Source>(rt: &impl Abort, source: &mut S, line: Line) {
-    holds(rt, !check(rt, source, line));
-    if line.2 {
-        same(rt, done(rt, source.take_opt_u8()), Some(0x05));
+/// The source doesn't fail, and the next value is left.
+impl Row for Line {
+    fn octets(&self) -> &[u8] {
+        self.0
+    }
+
+    fn check<S: Source + Drop, R: Abort>(&self, case: &Case<'_, R>, source: S) {
+        let mut source = source;
+        case.holds(!struck(case, &mut source, self));
+        if self.2 {
+            case.same(case.done(source.take_opt_u8()), Some(0x05));
+        }
     }
 }
 
 #[test]
 fn octets_are_taken_one_by_one(rt: HostRuntime) {
-    for line in LINES {
-        check_whole(&rt, &mut SliceSource::new(line.0), line);
-        check_whole(&rt, &mut shared(&rt, rt.alloc(), line.0), line);
-        check_whole(&rt, &mut sip(&rt, rt.alloc(), line.0), line);
-    }
+    check_all(&rt, rt.alloc(), &LINES);
 }
 
-/// Lets each request of the source fail once. The last number is more than there are requests.
+/// The number of a request that none of the lines comes to.
+const LAST: usize = 32;
+
+/// Lets a request of the source fail, and checks that no other one does.
+fn check_failing(case: &Case<'_, impl Abort>, line: &Line, source: Sip, failing: usize) {
+    let mut source = source;
+    let struck = struck(case, &mut source, line);
+    case.same(source.faults(), usize::from(struck));
+    case.holds(if struck { failing < LAST } else { failing > 1 });
+}
+
+/// Lets each request of the source fail once.
 #[test]
 fn failed_sources_leave_octets(rt: HostRuntime) {
-    let last = 32usize;
-    for line in LINES {
-        for failing in 1..=last {
-            let mut source = failing_sip(&rt, rt.alloc(), line.0, failing);
-            let struck = check(&rt, &mut source, line);
-            same(&rt, source.faults(), usize::from(struck));
-            holds(&rt, if struck { failing < last } else { failing > 1 });
-            let mut source = failing_whole(&rt, rt.alloc(), line.0, failing);
-            let struck = check(&rt, &mut source, line);
-            same(&rt, source.faults(), usize::from(struck));
-            holds(&rt, if struck { failing < last } else { failing > 1 });
+    for (number, line) in LINES.iter().enumerate() {
+        let case = Case::new(&rt, rt.alloc(), number);
+        for failing in 1..=LAST {
+            let source = failing_sip(&rt, rt.alloc(), line.0, failing);
+            check_failing(&case, line, source, failing);
+            let source = failing_whole(&rt, rt.alloc(), line.0, failing);
+            check_failing(&case, line, source, failing);
         }
     }
 }

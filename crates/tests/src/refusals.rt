@@ -4,32 +4,23 @@
 
 ghost use Rattle.bcder.specs.calls.Views.{Moved};
 
-use crate::asserts::{holds, same, shows};
-use crate::over::{shared, sip};
+use crate::asserts::Case;
+use crate::over::{Row, check_over};
 use bcder::decode::{Constructed, DecodeError, SliceSource, Source, Violation, walk};
 use bcder::{Mode, Tag};
-use std::alloc::Global;
 use std::process::Abort;
 
-/// Octets that are refused in a mode, the text of the error, and the position.
-type Row = (Mode, &'static [u8], &'static str, &'static str);
+/// A mode in which octets are refused, the octets, the text of the error, and the position.
+#[derive(Clone, Copy)]
+struct Line(Mode, &'static [u8], &'static str, &'static str);
 
-fn skipped<S: Source>(
-    rt: &impl Abort,
-    alloc: Global,
-    source: &mut S,
-    mode: Mode,
-    said: &str,
-    at: &str,
-) {
-    match mode.decode_lent(source, |cons| cons.skip_all(alloc)) {
-        Err(DecodeError::Content { error, pos }) => {
-            shows(rt, alloc, &error, said);
-            shows(rt, alloc, &pos, at);
-        }
-        _ => holds(rt, false),
-    }
-}
+/// A line whose values are skipped.
+#[derive(Clone, Copy)]
+struct Skipped<'a>(&'a Line);
+
+/// A line whose values are walked.
+#[derive(Clone, Copy)]
+struct Walked<'a>(&'a Line);
 
 /// Walks all values.
 fn walk_all<S: Source>(cons: &mut Constructed<'_, S>) -> Result<(), DecodeError<S::Error>>
@@ -38,41 +29,50 @@ fn walk_all<S: Source>(cons: &mut Constructed<'_, S>) -> Result<(), DecodeError<
     cons.while_some(|cons| walk(cons))
 }
 
-fn walked<S: Source>(
-    rt: &impl Abort,
-    alloc: Global,
-    source: &mut S,
-    mode: Mode,
-    said: &str,
-    at: &str,
-) {
-    match mode.decode_lent(source, |cons| walk_all(cons)) {
+/// Checks that content was refused with the text of a line, at its position.
+fn check<E: Drop>(case: &Case<'_, impl Abort>, line: &Line, outcome: Result<(), DecodeError<E>>) {
+    match outcome {
         Err(DecodeError::Content { error, pos }) => {
-            shows(rt, alloc, &error, said);
-            shows(rt, alloc, &pos, at);
+            case.shows(&error, line.2);
+            case.shows(&pos, line.3);
         }
-        _ => holds(rt, false),
+        _ => case.holds(false),
+    }
+}
+
+impl Row for Skipped<'_> {
+    fn octets(&self) -> &[u8] {
+        self.0.1
+    }
+
+    fn check<S: Source + Drop, R: Abort>(&self, case: &Case<'_, R>, source: S) {
+        let alloc = case.alloc;
+        check(
+            case,
+            self.0,
+            self.0.0.decode(source, |cons| cons.skip_all(alloc)),
+        );
+    }
+}
+
+impl Row for Walked<'_> {
+    fn octets(&self) -> &[u8] {
+        self.0.1
+    }
+
+    fn check<S: Source + Drop, R: Abort>(&self, case: &Case<'_, R>, source: S) {
+        check(case, self.0, self.0.0.decode(source, |cons| walk_all(cons)));
     }
 }
 
 /// What stands at position 0 is told of the octets alone.
-fn told(rt: &impl Abort, alloc: Global, row: &Row) {
-    let (mode, octets, said, at) = *row;
-    if at == "0" {
-        match Violation::at(mode, octets) {
-            Some(violation) => shows(rt, alloc, &violation, said),
-            None => holds(rt, false),
+fn told(case: &Case<'_, impl Abort>, line: &Line) {
+    if line.3 == "0" {
+        match Violation::at(line.0, line.1) {
+            Some(violation) => case.shows(&violation, line.2),
+            None => case.holds(false),
         }
     }
-}
-
-fn check(rt: &impl Abort, alloc: Global, row: &Row) {
-    let (mode, octets, said, at) = *row;
-    skipped(rt, alloc, &mut SliceSource::new(octets), mode, said, at);
-    skipped(rt, alloc, &mut shared(rt, alloc, octets), mode, said, at);
-    skipped(rt, alloc, &mut sip(rt, alloc, octets), mode, said, at);
-    walked(rt, alloc, &mut SliceSource::new(octets), mode, said, at);
-    walked(rt, alloc, &mut sip(rt, alloc, octets), mode, said, at);
 }
 
 const HEADER: &str = "the octets end inside a header";
@@ -87,151 +87,143 @@ const LONG: &str = "value longer than the value around it";
 
 const STRAY: &str = "end-of-contents octets where none belong";
 
-const TAGS: [Row; 9] = [
+/// A row for each rule of X.690, and files that were cut.
+const LINES: [Line; 35] = [
     // 8.1.2.4.2 a: bit 8 is set in the last octet
-    (Mode::Ber, &[0x1F], HEADER, "0"),
-    (Mode::Cer, &[0x05, 0x00, 0x5F, 0x81], HEADER, "2"),
-    (Mode::Der, &[0xBF, 0x81, 0x80], HEADER, "0"),
+    Line(Mode::Ber, &[0x1F], HEADER, "0"),
+    Line(Mode::Cer, &[0x05, 0x00, 0x5F, 0x81], HEADER, "2"),
+    Line(Mode::Der, &[0xBF, 0x81, 0x80], HEADER, "0"),
     // 8.1.2.2: a number up to 30 is in the leading octet
-    (Mode::Ber, &[0x1F, 0x1E, 0x00], TAG, "0"),
+    Line(Mode::Ber, &[0x1F, 0x1E, 0x00], TAG, "0"),
     // 8.1.2.4.2 c: bits 7 to 1 of the first octet of the number are zero
-    (
+    Line(
         Mode::Der,
         &[0x05, 0x00, 0x9F, 0x80, 0x81, 0x00, 0x00],
         TAG,
         "2",
     ),
     // 2097152
-    (
+    Line(
         Mode::Ber,
         &[0x1F, 0x81, 0x80, 0x80, 0x00, 0x00],
         "tag number over 2097151",
         "0",
     ),
     // 8.1.5
-    (
+    Line(
         Mode::Ber,
         &[0x00, 0x01, 0x00],
         "tag of end-of-contents octets on a value",
         "0",
     ),
-    (
+    Line(
         Mode::Der,
         &[0x20, 0x00],
         "tag of end-of-contents octets on a value",
         "0",
     ),
-    (
+    Line(
         Mode::Cer,
         &[0x30, 0x80, 0x00, 0x80],
         "tag of end-of-contents octets on a value",
         "2",
     ),
-];
-
-const LENGTHS: [Row; 11] = [
     // 8.1.3.5
-    (Mode::Ber, &[0x30], HEADER, "0"),
-    (Mode::Der, &[0x04, 0x82, 0x01], HEADER, "0"),
+    Line(Mode::Ber, &[0x30], HEADER, "0"),
+    Line(Mode::Der, &[0x04, 0x82, 0x01], HEADER, "0"),
     // 8.1.3.5 c
-    (
+    Line(
         Mode::Ber,
         &[0x04, 0xFF, 0x00],
         "reserved length octet FF",
         "0",
     ),
-    (
+    Line(
         Mode::Ber,
         &[0x04, 0x85, 0x00, 0x00, 0x00, 0x00, 0x01, 0x61],
         "length of more than four octets",
         "0",
     ),
     // 9.1, 10.1
-    (Mode::Cer, &[0x04, 0x81, 0x01, 0x61], LENGTH, "0"),
-    (
+    Line(Mode::Cer, &[0x04, 0x81, 0x01, 0x61], LENGTH, "0"),
+    Line(
         Mode::Der,
         &[0x30, 0x04, 0x04, 0x82, 0x00, 0x80],
         LENGTH,
         "2",
     ),
     // 8.1.3.2
-    (
+    Line(
         Mode::Ber,
         &[0x04, 0x80, 0x00, 0x00],
         "indefinite length of a primitive value",
         "0",
     ),
-    (
+    Line(
         Mode::Der,
         &[0x04, 0x80, 0x00, 0x00],
         "indefinite length of a primitive value",
         "0",
     ),
     // 10.1
-    (
+    Line(
         Mode::Der,
         &[0x30, 0x02, 0x30, 0x80, 0x00, 0x00],
         "indefinite length in DER",
         "2",
     ),
     // 9.1
-    (
+    Line(
         Mode::Cer,
         &[0x30, 0x00],
         "definite length of a constructed value in CER",
         "0",
     ),
-    (
+    Line(
         Mode::Cer,
         &[0x30, 0x80, 0x31, 0x81, 0x80],
         "definite length of a constructed value in CER",
         "2",
     ),
-];
-
-const CONTENTS: [Row; 6] = [
     // the position is that after the header
-    (Mode::Ber, &[0x30, 0x03, 0x04, 0x02, 0x61], LONG, "4"),
-    (Mode::Der, &[0x30, 0x04, 0x31, 0x03, 0x05, 0x00], LONG, "4"),
+    Line(Mode::Ber, &[0x30, 0x03, 0x04, 0x02, 0x61], LONG, "4"),
+    Line(Mode::Der, &[0x30, 0x04, 0x31, 0x03, 0x05, 0x00], LONG, "4"),
     // 8.1.5
-    (Mode::Ber, &[0x00, 0x00], STRAY, "2"),
-    (Mode::Der, &[0x30, 0x02, 0x00, 0x00], STRAY, "4"),
-    (Mode::Cer, &[0x30, 0x80, 0x00, 0x00, 0x00, 0x00], STRAY, "6"),
+    Line(Mode::Ber, &[0x00, 0x00], STRAY, "2"),
+    Line(Mode::Der, &[0x30, 0x02, 0x00, 0x00], STRAY, "4"),
+    Line(Mode::Cer, &[0x30, 0x80, 0x00, 0x00, 0x00, 0x00], STRAY, "6"),
     // the value around ends before the end-of-contents octets do
-    (Mode::Ber, &[0x30, 0x04, 0x30, 0x80, 0x05, 0x00], END, "6"),
-];
-
-// A SEQUENCE of an INTEGER and an OCTET STRING of 200 octets, cut.
-const CUT: [Row; 9] = [
-    (
+    Line(Mode::Ber, &[0x30, 0x04, 0x30, 0x80, 0x05, 0x00], END, "6"),
+    // a SEQUENCE of an INTEGER and an OCTET STRING of 200 octets, cut
+    Line(
         Mode::Ber,
         &[0x30, 0x80, 0x02, 0x01, 0x05, 0x04],
         HEADER,
         "5",
     ),
-    (Mode::Ber, &[0x30, 0x80, 0x02, 0x01], END, "4"),
-    (Mode::Ber, &[0x30, 0x80, 0x02, 0x01, 0x05], END, "5"),
-    (
+    Line(Mode::Ber, &[0x30, 0x80, 0x02, 0x01], END, "4"),
+    Line(Mode::Ber, &[0x30, 0x80, 0x02, 0x01, 0x05], END, "5"),
+    Line(
         Mode::Cer,
         &[0x30, 0x80, 0x02, 0x01, 0x05, 0x04, 0x81],
         HEADER,
         "5",
     ),
-    (
+    Line(
         Mode::Cer,
         &[0x30, 0x80, 0x02, 0x01, 0x05, 0x04, 0x81, 0xC8, 0x61],
         END,
         "8",
     ),
-    (Mode::Cer, &[0x30, 0x80], END, "2"),
-    (Mode::Der, &[0x30, 0x81], HEADER, "0"),
-    (
+    Line(Mode::Cer, &[0x30, 0x80], END, "2"),
+    Line(Mode::Der, &[0x30, 0x81], HEADER, "0"),
+    Line(
         Mode::Der,
         &[0x30, 0x81, 0xCE, 0x02, 0x01, 0x05, 0x04, 0x81],
         HEADER,
         "6",
     ),
-    (
+    Line(
         Mode::Der,
         &[0x30, 0x81, 0xCE, 0x02, 0x01, 0x05, 0x04, 0x81, 0xC8],
         END,
@@ -240,32 +232,11 @@ const CUT: [Row; 9] = [
 ];
 
 #[test]
-fn tags_that_are_refused(rt: HostRuntime) {
-    for row in &TAGS {
-        check(&rt, rt.alloc(), row);
-        told(&rt, rt.alloc(), row);
-    }
-}
-
-#[test]
-fn lengths_that_are_refused(rt: HostRuntime) {
-    for row in &LENGTHS {
-        check(&rt, rt.alloc(), row);
-        told(&rt, rt.alloc(), row);
-    }
-}
-
-#[test]
-fn contents_that_are_refused(rt: HostRuntime) {
-    for row in &CONTENTS {
-        check(&rt, rt.alloc(), row);
-    }
-}
-
-#[test]
-fn files_that_were_cut(rt: HostRuntime) {
-    for row in &CUT {
-        check(&rt, rt.alloc(), row);
+fn octets_that_are_refused(rt: HostRuntime) {
+    for (number, line) in LINES.iter().enumerate() {
+        check_over(&rt, rt.alloc(), number, &Skipped(line));
+        check_over(&rt, rt.alloc(), number, &Walked(line));
+        told(&Case::new(&rt, rt.alloc(), number), line);
     }
 }
 
@@ -280,8 +251,9 @@ const WHOLE: [(Mode, &[u8]); 5] = [
 
 #[test]
 fn headers_that_violate_nothing(rt: HostRuntime) {
-    for (mode, octets) in WHOLE {
-        same(&rt, Violation::at(mode, octets), None);
+    for (number, (mode, octets)) in WHOLE.iter().enumerate() {
+        let case = Case::new(&rt, rt.alloc(), number);
+        case.same(Violation::at(*mode, *octets), None);
     }
 }
 
@@ -304,10 +276,11 @@ const IDENTIFIERS: [(&[u8], &str); 4] = [
 
 #[test]
 fn identifier_octets_that_are_refused(rt: HostRuntime) {
-    for (octets, said) in IDENTIFIERS {
-        match Tag::take_from(&mut SliceSource::new(octets)) {
-            Ok(_) => holds(&rt, false),
-            Err(error) => shows(&rt, rt.alloc(), &error, said),
+    for (number, (octets, said)) in IDENTIFIERS.iter().enumerate() {
+        let case = Case::new(&rt, rt.alloc(), number);
+        match Tag::take_from(&mut SliceSource::new(*octets)) {
+            Ok(_) => case.holds(false),
+            Err(error) => case.shows(&error, *said),
         }
     }
 }

@@ -1,6 +1,6 @@
 //! Tests of sources and errors, with values from outside. The digits are ASCII octets.
-use crate::asserts::{done, holds, same, shows};
-use crate::over::{failing_sip, shared, sip};
+use crate::asserts::{Case, done, holds, is_failed, is_refused, same, shows};
+use crate::over::{Row, check_all, failing_sip, shared, sip};
 use bcder::decode::{
     BytesSource, CaptureSource, ContentError, DecodeError, IntoSource, LimitedSource, Message, Pos,
     SliceSource, Source,
@@ -17,52 +17,214 @@ use support::borrows::{
 };
 use support::sip::SipError;
 
-// Asserts what is left of a source.
-fn assert_rest<S: Source>(rt: &impl Abort, source: &mut S, rest: &[u8]) {
-    same(rt, done(rt, source.request(rest.len())), rest.len());
-    same(rt, source.slice(), rest);
-    holds(
-        rt,
-        done(rt, source.take_opt_u8()).is_some() || rest.is_empty(),
+/// Asserts what is left of a source.
+fn assert_rest<S: Source>(case: &Case<'_, impl Abort>, source: &mut S, rest: &[u8]) {
+    case.same(case.done(source.request(rest.len())), rest.len());
+    case.same(source.slice(), rest);
+    case.holds(case.done(source.take_opt_u8()).is_some() || rest.is_empty());
+}
+
+/// Returns whether a call was refused with a fixed text.
+fn is_static<T: Drop, E: Drop>(outcome: Result<T, DecodeError<E>>) -> bool {
+    match outcome {
+        Ok(_) => false,
+        Err(error) => matches!(error.content_error(), Some(ContentError::Static(_))),
+    }
+}
+
+/// Checks a limit over a capturing source over a limit.
+fn check_nested<S: Source>(case: &Case<'_, impl Abort>, inner: &mut LimitedSource<S>) {
+    inner.set_limit(Some(4));
+    let mut view = LimitedSource::new(CaptureSource::new(inner));
+    view.set_limit(Some(5));
+    case.same(case.done(view.request(9)), 4);
+    case.holds(view.take_all(case.alloc).is_err());
+    case.same(view.limit(), Some(5));
+    case.same(case.done(view.request(9)), 4);
+    view.set_limit(Some(4));
+    case.same(
+        case.done(view.take_all(case.alloc)).as_slice(),
+        b"1234".as_slice(),
+    );
+    case.same(view.limit(), Some(0));
+    let mut capture = view.unwrap();
+    case.done(capture.request(0));
+    case.same(
+        case.done(capture.into_bytes(case.alloc)).as_slice(),
+        b"1234".as_slice(),
     );
 }
 
-// Checks a limit over a capturing source over a limit.
-fn check_nested<S: Source + Drop>(rt: &impl Abort, alloc: Global, source: S) {
+/// Checks what is left after a limit over a capturing source over a limit.
+fn check_behind_nested<S: Source + Drop>(case: &Case<'_, impl Abort>, source: S) {
     let mut inner = LimitedSource::new(source);
-    inner.set_limit(Some(4));
-    let mut view = LimitedSource::new(CaptureSource::new(&mut inner));
-    view.set_limit(Some(5));
-    same(rt, done(rt, view.request(9)), 4);
-    holds(rt, view.take_all(alloc).is_err());
-    same(rt, view.limit(), Some(5));
-    same(rt, done(rt, view.request(9)), 4);
-    view.set_limit(Some(4));
-    same(
-        rt,
-        done(rt, view.take_all(alloc)).as_slice(),
-        b"1234".as_slice(),
-    );
-    same(rt, view.limit(), Some(0));
-    let mut capture = view.unwrap();
-    done(rt, capture.request(0));
-    same(
-        rt,
-        done(rt, capture.into_bytes(alloc)).as_slice(),
-        b"1234".as_slice(),
-    );
-    same(rt, inner.limit(), Some(0));
+    check_nested(case, &mut inner);
+    case.same(inner.limit(), Some(0));
     let mut source = inner.unwrap();
-    same(rt, done(rt, source.request(4)), 4);
-    same(rt, source.slice(), b"5678".as_slice());
+    case.same(case.done(source.request(4)), 4);
+    case.same(source.slice(), b"5678".as_slice());
+}
+
+fn check_limit<S: Source + Drop>(case: &Case<'_, impl Abort>, source: S) {
+    let mut source = LimitedSource::new(source);
+    case.same(source.limit_further(Some(4)), None);
+    let refused = source.exhausted();
+    case.holds(is_refused(refused));
+    let found = case.done(source.request(6));
+    case.are(found, 4);
+    source.advance(2);
+    case.holds(source.exhausted().is_err());
+    let found = case.done(source.request(6));
+    case.are(found, 2);
+    source.advance(2);
+    case.holds(source.exhausted().is_ok());
+    case.same(case.done(source.request(6)), 0);
+    case.same(source.limit(), Some(0));
+    source.set_limit(Some(4));
+    case.done(source.skip_all());
+    source.set_limit(None);
+    case.holds(source.exhausted().is_ok());
+}
+
+/// Checks that a source's own calls refuse with fixed texts, over two octets.
+fn check_texts<S: Source + Drop>(case: &Case<'_, impl Abort>, source: S) {
+    let mut source = LimitedSource::new(source);
+    source.set_limit(Some(3));
+    case.holds(is_static(source.skip_all()));
+    case.holds(is_static(source.take_all(case.alloc)));
+    case.holds(is_static(source.exhausted()));
+    source.set_limit(None);
+    case.holds(is_static(source.exhausted()));
+    let mut source = source.unwrap();
+    case.done(source.skip(2));
+    case.holds(is_static(source.take_u8()));
+}
+
+fn check_take_all<S: Source + Drop>(case: &Case<'_, impl Abort>, source: S) {
+    let mut source = LimitedSource::new(source);
+    source.set_limit(Some(4));
+    let taken = case.done(source.take_all(case.alloc));
+    case.same(taken.as_slice(), b"1234".as_slice());
+    assert_rest(case, &mut source.unwrap(), b"5678");
+}
+
+fn check_octets<S: Source>(case: &Case<'_, impl Abort>, source: &mut S, wanted: &[u8]) {
+    for octet in wanted {
+        case.same(case.done(source.take_u8()), *octet);
+    }
+    let refused = source.take_u8();
+    case.holds(is_refused(refused));
+}
+
+fn check_opt_octets<S: Source>(case: &Case<'_, impl Abort>, source: &mut S, wanted: &[u8]) {
+    for octet in wanted {
+        case.same(case.done(source.take_opt_u8()), Some(*octet));
+    }
+    case.same(case.done(source.take_opt_u8()), None);
+}
+
+fn check_capture<S: Source>(case: &Case<'_, impl Abort>, source: &mut S) {
+    let mut capture = CaptureSource::new(source);
+    let found = case.done(capture.request(4));
+    case.at_least(found, 4);
+    capture.advance(4);
+    let taken = case.done(capture.into_bytes(case.alloc));
+    case.same(taken.as_slice(), b"1234".as_slice());
+}
+
+fn check_later_capture<S: Source>(case: &Case<'_, impl Abort>, source: &mut S) {
+    let mut capture = CaptureSource::new(source);
+    let found = case.done(capture.request(5));
+    case.at_least(found, 5);
+    capture.advance(5);
+    let found = case.done(capture.request(usize::MAX));
+    case.are(found, 1);
+    let taken = case.done(capture.bytes(case.alloc, 0, 1));
+    case.same(taken.as_slice(), b"0".as_slice());
+}
+
+fn check_taken<S: Source>(case: &Case<'_, impl Abort>, source: &mut S) {
+    let alloc = case.alloc;
+    let taken = case.done(take_exactly(source, alloc, 3));
+    case.same(taken.as_slice(), b"123".as_slice());
+    let refused = take_exactly(source, alloc, 12);
+    case.holds(matches!(refused, Err(TakeError::Short)));
+    let taken = case.done(capture_two(source, alloc));
+    case.same(taken.as_slice(), b"45".as_slice());
+    let taken = case.done(capture_passed(source, alloc));
+    case.same(taken.as_slice(), b"67".as_slice());
+}
+
+fn check_passed<S: Source + Drop>(case: &Case<'_, impl Abort>, mut source: S) {
+    case.holds(case.done(pass_two(&mut source)));
+    case.holds(!case.done(pass_two_within(&mut source, 1)));
+    case.holds(case.done(pass_two_within(&mut source, 3)));
+    case.holds(case.done(has_two(&mut source)));
+    case.holds(case.done(skip_two(&mut source)));
+    match case.done(without_two(source)) {
+        Some(mut left) => case.same(case.done(left.take_opt_u8()), None),
+        None => case.holds(false),
+    }
+}
+
+/// What is done with a source.
+#[derive(Clone, Copy)]
+enum Way {
+    Nested,
+    Limit,
+    Texts,
+    TakeAll,
+    Octets,
+    OptOctets,
+    Captures,
+    Taken,
+    Passed,
+}
+
+/// Octets, and what is done with a source of them.
+#[derive(Clone, Copy)]
+struct Line(&'static [u8], Way);
+
+const LINES: [Line; 9] = [
+    Line(b"12345678", Way::Nested),
+    Line(b"12345678", Way::Limit),
+    Line(b"12", Way::Texts),
+    Line(b"12345678", Way::TakeAll),
+    Line(b"123", Way::Octets),
+    Line(b"123", Way::OptOctets),
+    Line(b"1234567890", Way::Captures),
+    Line(b"12345678", Way::Taken),
+    Line(b"12345678", Way::Passed),
+];
+
+impl Row for Line {
+    fn octets(&self) -> &[u8] {
+        self.0
+    }
+
+    fn check<S: Source + Drop, R: Abort>(&self, case: &Case<'_, R>, source: S) {
+        let mut source = source;
+        match self.1 {
+            Way::Nested => check_behind_nested(case, source),
+            Way::Limit => check_limit(case, source),
+            Way::Texts => check_texts(case, source),
+            Way::TakeAll => check_take_all(case, source),
+            Way::Octets => check_octets(case, &mut source, self.0),
+            Way::OptOctets => check_opt_octets(case, &mut source, self.0),
+            Way::Captures => {
+                check_capture(case, &mut source);
+                check_later_capture(case, &mut source);
+                assert_rest(case, &mut source, b"567890");
+            }
+            Way::Taken => check_taken(case, &mut source),
+            Way::Passed => check_passed(case, source),
+        }
+    }
 }
 
 #[test]
-fn nested(rt: HostRuntime) {
-    let octets = b"12345678";
-    check_nested(&rt, rt.alloc(), SliceSource::new(octets));
-    check_nested(&rt, rt.alloc(), shared(&rt, rt.alloc(), octets));
-    check_nested(&rt, rt.alloc(), sip(&rt, rt.alloc(), octets));
+fn sources_and_views(rt: HostRuntime) {
+    check_all(&rt, rt.alloc(), &LINES);
 }
 
 #[test]
@@ -90,10 +252,7 @@ fn failed_skip(rt: HostRuntime) {
 fn failed_limited(rt: HostRuntime) {
     let mut limited = LimitedSource::new(failing_sip(&rt, rt.alloc(), b"1234", 1));
     limited.set_limit(Some(2));
-    holds(
-        &rt,
-        limited.skip_all().is_err_and(|error| error.is_source()),
-    );
+    holds(&rt, is_failed(limited.skip_all()));
     same(&rt, limited.limit(), Some(2));
     same(
         &rt,
@@ -105,7 +264,7 @@ fn failed_limited(rt: HostRuntime) {
 #[test]
 fn failed_octet(rt: HostRuntime) {
     let mut source = failing_sip(&rt, rt.alloc(), b"1234", 1);
-    holds(&rt, source.take_u8().is_err_and(|error| error.is_source()));
+    holds(&rt, is_failed(source.take_u8()));
     same(&rt, done(&rt, source.take_opt_u8()), Some(b'1'));
 }
 
@@ -124,196 +283,6 @@ fn failed_capture(rt: HostRuntime) {
         done(&rt, capture_two(&mut source, rt.alloc())).as_slice(),
         b"12".as_slice(),
     );
-}
-
-fn check_limit<S: Source + Drop>(rt: &impl Abort, source: S) {
-    let mut source = LimitedSource::new(source);
-    same(rt, source.limit_further(Some(4)), None);
-    holds(
-        rt,
-        source
-            .exhausted()
-            .is_err_and(|error| error.content_error().is_some()),
-    );
-    assert_eq!(rt; done(rt, source.request(6)), 4);
-    source.advance(2);
-    holds(rt, source.exhausted().is_err());
-    assert_eq!(rt; done(rt, source.request(6)), 2);
-    source.advance(2);
-    holds(rt, source.exhausted().is_ok());
-    same(rt, done(rt, source.request(6)), 0);
-    same(rt, source.limit(), Some(0));
-    source.set_limit(Some(4));
-    done(rt, source.skip_all());
-    source.set_limit(None);
-    holds(rt, source.exhausted().is_ok());
-}
-
-#[test]
-fn limits(rt: HostRuntime) {
-    let octets = b"12345678";
-    check_limit(&rt, SliceSource::new(octets));
-    check_limit(&rt, shared(&rt, rt.alloc(), octets));
-    check_limit(&rt, sip(&rt, rt.alloc(), octets));
-}
-
-/// Returns whether a call was refused with a fixed text.
-fn is_static<T: Drop, E: Drop>(outcome: Result<T, DecodeError<E>>) -> bool {
-    match outcome {
-        Ok(_) => false,
-        Err(error) => matches!(error.content_error(), Some(ContentError::Static(_))),
-    }
-}
-
-// Checks the refusals of a source's own calls, over two octets.
-fn check_static<S: Source + Drop>(rt: &impl Abort, alloc: Global, source: S) {
-    let mut source = LimitedSource::new(source);
-    source.set_limit(Some(3));
-    holds(rt, is_static(source.skip_all()));
-    holds(rt, is_static(source.take_all(alloc)));
-    holds(rt, is_static(source.exhausted()));
-    source.set_limit(None);
-    holds(rt, is_static(source.exhausted()));
-    let mut source = source.unwrap();
-    done(rt, source.skip(2));
-    holds(rt, is_static(source.take_u8()));
-}
-
-#[test]
-fn refusals_have_fixed_texts(rt: HostRuntime) {
-    let octets = b"12";
-    check_static(&rt, rt.alloc(), SliceSource::new(octets));
-    check_static(&rt, rt.alloc(), shared(&rt, rt.alloc(), octets));
-    check_static(&rt, rt.alloc(), sip(&rt, rt.alloc(), octets));
-}
-
-fn check_take_all<S: Source + Drop>(rt: &impl Abort, alloc: Global, source: S) {
-    let mut source = LimitedSource::new(source);
-    source.set_limit(Some(4));
-    same(
-        rt,
-        done(rt, source.take_all(alloc)).as_slice(),
-        b"1234".as_slice(),
-    );
-    assert_rest(rt, &mut source.unwrap(), b"5678");
-}
-
-#[test]
-fn takes_all(rt: HostRuntime) {
-    let octets = b"12345678";
-    check_take_all(&rt, rt.alloc(), SliceSource::new(octets));
-    check_take_all(&rt, rt.alloc(), shared(&rt, rt.alloc(), octets));
-    check_take_all(&rt, rt.alloc(), sip(&rt, rt.alloc(), octets));
-}
-
-fn check_octets<S: Source + Drop>(rt: &impl Abort, mut source: S, mut again: S) {
-    same(rt, done(rt, source.take_u8()), b'1');
-    same(rt, done(rt, source.take_u8()), b'2');
-    same(rt, done(rt, source.take_u8()), b'3');
-    holds(
-        rt,
-        source
-            .take_u8()
-            .is_err_and(|error| error.content_error().is_some()),
-    );
-    same(rt, done(rt, again.take_opt_u8()), Some(b'1'));
-    same(rt, done(rt, again.take_opt_u8()), Some(b'2'));
-    same(rt, done(rt, again.take_opt_u8()), Some(b'3'));
-    same(rt, done(rt, again.take_opt_u8()), None);
-}
-
-#[test]
-fn octets(rt: HostRuntime) {
-    let octets = b"123";
-    check_octets(&rt, SliceSource::new(octets), SliceSource::new(octets));
-    check_octets(
-        &rt,
-        shared(&rt, rt.alloc(), octets),
-        shared(&rt, rt.alloc(), octets),
-    );
-    check_octets(
-        &rt,
-        sip(&rt, rt.alloc(), octets),
-        sip(&rt, rt.alloc(), octets),
-    );
-}
-
-fn check_capture<S: Source + Drop>(rt: &impl Abort, alloc: Global, mut source: S) {
-    let mut capture = CaptureSource::new(&mut source);
-    let found = done(rt, capture.request(4));
-    assert!(rt; found >= 4);
-    capture.advance(4);
-    same(
-        rt,
-        done(rt, capture.into_bytes(alloc)).as_slice(),
-        b"1234".as_slice(),
-    );
-    let mut capture = CaptureSource::new(&mut source);
-    assert!(rt; done(rt, capture.request(5)) >= 5);
-    capture.advance(5);
-    assert_eq!(rt; done(rt, capture.request(usize::MAX)), 1);
-    same(
-        rt,
-        done(rt, capture.bytes(alloc, 0, 1)).as_slice(),
-        b"0".as_slice(),
-    );
-    assert_rest(rt, &mut source, b"567890");
-}
-
-#[test]
-fn captures(rt: HostRuntime) {
-    let octets = b"1234567890";
-    check_capture(&rt, rt.alloc(), SliceSource::new(octets));
-    check_capture(&rt, rt.alloc(), shared(&rt, rt.alloc(), octets));
-    check_capture(&rt, rt.alloc(), sip(&rt, rt.alloc(), octets));
-}
-
-fn check_taken<S: Source + Drop>(rt: &impl Abort, alloc: Global, source: &mut S) {
-    same(
-        rt,
-        done(rt, take_exactly(source, alloc, 3)).as_slice(),
-        b"123".as_slice(),
-    );
-    holds(
-        rt,
-        matches!(take_exactly(source, alloc, 12), Err(TakeError::Short)),
-    );
-    same(
-        rt,
-        done(rt, capture_two(source, alloc)).as_slice(),
-        b"45".as_slice(),
-    );
-    same(
-        rt,
-        done(rt, capture_passed(source, alloc)).as_slice(),
-        b"67".as_slice(),
-    );
-}
-
-fn check_passed<S: Source + Drop>(rt: &impl Abort, mut source: S) {
-    holds(rt, done(rt, pass_two(&mut source)));
-    holds(rt, !done(rt, pass_two_within(&mut source, 1)));
-    holds(rt, done(rt, pass_two_within(&mut source, 3)));
-    holds(rt, done(rt, has_two(&mut source)));
-    holds(rt, done(rt, skip_two(&mut source)));
-    let mut left = done(rt, without_two(source)).expect(rt, "two octets");
-    same(rt, done(rt, left.take_opt_u8()), None);
-}
-
-#[test]
-fn borrowed(rt: HostRuntime) {
-    let octets = b"12345678";
-    check_taken(&rt, rt.alloc(), &mut SliceSource::new(octets));
-    check_taken(&rt, rt.alloc(), &mut shared(&rt, rt.alloc(), octets));
-    check_taken(&rt, rt.alloc(), &mut sip(&rt, rt.alloc(), octets));
-}
-
-#[test]
-fn passed(rt: HostRuntime) {
-    let octets = b"12345678";
-    check_passed(&rt, SliceSource::new(octets));
-    check_passed(&rt, shared(&rt, rt.alloc(), octets));
-    check_passed(&rt, sip(&rt, rt.alloc(), octets));
 }
 
 fn assert_at<S: Source>(rt: &impl Abort, alloc: Global, source: &S, text: &str) {
@@ -390,13 +359,15 @@ fn wrappers(rt: HostRuntime) {
 #[test]
 fn made_of(rt: HostRuntime) {
     let octets = b"123".as_slice();
-    assert_rest(&rt, &mut octets.into_source(), b"123");
+    let case = Case::new(&rt, rt.alloc(), 0);
+    let shared = done(&rt, Bytes::copy_from_slice(rt.alloc(), octets));
+    assert_rest(&case, &mut octets.into_source(), b"123");
+    assert_rest(&case, &mut shared.into_source(), b"123");
     assert_rest(
-        &rt,
-        &mut done(&rt, Bytes::copy_from_slice(rt.alloc(), octets)).into_source(),
+        &case,
+        &mut sip(&rt, rt.alloc(), octets).into_source(),
         b"123",
     );
-    assert_rest(&rt, &mut sip(&rt, rt.alloc(), octets).into_source(), b"123");
 }
 
 #[test]
@@ -407,9 +378,10 @@ fn clones(rt: HostRuntime) {
     limited.set_limit(Some(4));
     let mut twin = done(&rt, limited.clone());
     same(&rt, twin.limit(), Some(4));
-    assert_rest(&rt, &mut twin, b"3456");
+    let case = Case::new(&rt, rt.alloc(), 0);
+    assert_rest(&case, &mut twin, b"3456");
     assert_at(&rt, rt.alloc(), &twin, "3");
-    assert_rest(&rt, &mut limited, b"3456");
+    assert_rest(&case, &mut limited, b"3456");
 }
 
 #[test]
@@ -434,91 +406,137 @@ impl Message for Note {
     }
 }
 
+/// How an error of content is made.
+#[derive(Clone, Copy)]
+enum Why {
+    Static,
+    Copied,
+    Owned,
+    Tag,
+    Integer,
+    Boxed,
+}
+
+/// Errors of content, and their texts.
+const WHYS: [(Why, &str); 6] = [
+    (Why::Static, "out of place"),
+    (Why::Copied, "in the way"),
+    (Why::Owned, "2 of 3"),
+    (Why::Tag, "expected tag [1]"),
+    (Why::Integer, "expected integer value 200"),
+    (Why::Boxed, "a note"),
+];
+
+fn content_error(case: &Case<'_, impl Abort>, why: Why) -> ContentError {
+    match why {
+        Why::Static => ContentError::from_static("out of place"),
+        Why::Copied => ContentError::from("in the way"),
+        Why::Owned => { ContentError::from(case.done(format!(in case.alloc; "{} of {}", 2, 3))) }
+        Why::Tag => ContentError::ExpectedTag(Tag::CTX_1),
+        Why::Integer => ContentError::ExpectedInteger(200),
+        Why::Boxed => {
+            let note = case.done(Box::new(case.alloc, Note));
+            case.done(ContentError::from_boxed(case.alloc, note))
+        }
+    }
+}
+
 #[test]
 fn texts_of_content_errors(rt: HostRuntime) {
-    let alloc = rt.alloc();
-    shows(
-        &rt,
-        alloc,
-        &ContentError::from_static("out of place"),
-        "out of place",
-    );
-    shows(&rt, alloc, &ContentError::from("in the way"), "in the way");
-    let owned = done(&rt, format!(in alloc; "{} of {}", 2, 3));
-    shows(&rt, alloc, &ContentError::from(owned), "2 of 3");
-    shows(
-        &rt,
-        alloc,
-        &ContentError::ExpectedTag(Tag::CTX_1),
-        "expected tag [1]",
-    );
-    shows(
-        &rt,
-        alloc,
-        &ContentError::ExpectedInteger(200),
-        "expected integer value 200",
-    );
-    let note = done(&rt, Box::new(alloc, Note));
-    let boxed = done(&rt, ContentError::from_boxed(alloc, note));
-    shows(&rt, alloc, &boxed, "a note");
+    for (row, (why, text)) in WHYS.iter().enumerate() {
+        let case = Case::new(&rt, rt.alloc(), row);
+        case.shows(&content_error(&case, *why), *text);
+    }
+}
+
+/// How the error of a call is made.
+#[derive(Clone, Copy)]
+enum Made {
+    Content,
+    Source,
+    NoMemory,
+
+    /// The error of a source that can't fail becomes that of another.
+    Memory,
+    OfContent,
+
+    /// The error of a source that runs out of memory becomes that of another.
+    Failed,
+    Lacked,
+    Refused,
+
+    /// The error of a refused allocation.
+    Alloc,
+    Elsewhere,
+}
+
+/// Errors, whether they are for want of memory, of the source, and of content, and their texts.
+const ERRORS: [(Made, [bool; 3], &str); 10] = [
+    (Made::Content, [false, false, true], "bad (at position 12)"),
+    (Made::Source, [false, true, false], "the sip failed"),
+    (Made::NoMemory, [true, false, false], "out of memory"),
+    (Made::Memory, [true, false, false], "out of memory"),
+    (Made::OfContent, [false, false, true], "bad (at position 3)"),
+    (Made::Failed, [true, false, false], "out of memory"),
+    (Made::Lacked, [true, false, false], "out of memory"),
+    (Made::Refused, [false, false, true], "bad (at position 3)"),
+    (Made::Alloc, [true, false, false], "out of memory"),
+    (Made::Elsewhere, [true, false, false], "out of memory"),
+];
+
+/// Returns the error of a refused allocation: no memory has room for so many octets.
+fn refused_alloc(case: &Case<'_, impl Abort>) -> DecodeError<SipError> {
+    match Vec::<u8>::with_capacity(case.alloc, usize::MAX) {
+        Ok(_) => DecodeError::from(SipError),
+        Err(refused) => DecodeError::from_alloc(refused),
+    }
+}
+
+fn decode_error(case: &Case<'_, impl Abort>, made: Made) -> DecodeError<SipError> {
+    let bad = ContentError::from("bad");
+    match made {
+        Made::Content => DecodeError::content(bad, Pos::from(12)),
+        Made::Source => DecodeError::from(SipError),
+        Made::NoMemory => DecodeError::no_memory(),
+        Made::Memory => DecodeError::<Infallible>::no_memory().convert(),
+        Made::OfContent => DecodeError::<Infallible>::content(bad, Pos::from(3)).convert(),
+        Made::Failed => DecodeError::from(NoMemory).convert(),
+        Made::Lacked => DecodeError::<NoMemory>::no_memory().convert(),
+        Made::Refused => DecodeError::<NoMemory>::content(bad, Pos::from(3)).convert(),
+        Made::Alloc => refused_alloc(case),
+        Made::Elsewhere => DecodeError::from_alloc(NoMemory),
+    }
 }
 
 #[test]
 fn texts_of_errors(rt: HostRuntime) {
-    let alloc = rt.alloc();
+    for (row, (made, kind, text)) in ERRORS.iter().enumerate() {
+        let case = Case::new(&rt, rt.alloc(), row);
+        let error = decode_error(&case, *made);
+        let content = error.content_error().is_some();
+        case.same([error.is_memory(), error.is_source(), content], *kind);
+        case.shows(&error, *text);
+    }
+}
+
+#[test]
+fn errors_are_debugged(rt: HostRuntime) {
     let error = DecodeError::<SipError>::content(ContentError::from("bad"), Pos::from(12));
-    shows(&rt, alloc, &error, "bad (at position 12)");
-    shows(&rt, alloc, &DecodeError::from(SipError), "the sip failed");
-    shows(
-        &rt,
-        alloc,
-        &DecodeError::<SipError>::no_memory(),
-        "out of memory",
-    );
-    let shown = done(&rt, format!(in alloc; "{error:?}"));
+    let shown = done(&rt, format!(in rt.alloc(); "{error:?}"));
     holds(&rt, shown.contains("bad"));
 }
 
 #[test]
-fn want_of_memory_stays(rt: HostRuntime) {
-    let converted = DecodeError::<Infallible>::no_memory().convert::<SipError>();
-    holds(&rt, converted.is_memory());
-    holds(&rt, !converted.is_source());
-    holds(&rt, converted.content_error().is_none());
+fn content_is_handed_out(rt: HostRuntime) {
+    let error = DecodeError::<Infallible>::content(ContentError::from("bad"), Pos::from(3));
+    match error.into_content() {
+        Ok(ContentError::Static(text)) => same(&rt, text.as_str(), "bad"),
+        _ => panic!(rt; "another error"),
+    }
     holds(
         &rt,
         matches!(DecodeError::no_memory().into_content(), Err(NoMemory)),
     );
-}
-
-/// The error of a source that runs out of memory becomes that of another source.
-#[test]
-fn a_source_without_memory(rt: HostRuntime) {
-    let failed = DecodeError::from(NoMemory).convert::<SipError>();
-    holds(&rt, failed.is_memory() && !failed.is_source());
-    let lacked = DecodeError::<NoMemory>::no_memory().convert::<SipError>();
-    holds(&rt, lacked.is_memory());
-    let error = DecodeError::<NoMemory>::content(ContentError::from("bad"), Pos::from(3));
-    let refused = error.convert::<SipError>();
-    holds(&rt, !refused.is_memory() && !refused.is_source());
-    shows(&rt, rt.alloc(), &refused, "bad (at position 3)");
-}
-
-/// Checks that the error of a refused allocation becomes the error of a call on content, and of one
-/// that encodes.
-#[test]
-fn want_of_memory_goes_on(rt: HostRuntime) {
-    let grown = Vec::<u8>::with_capacity(rt.alloc(), usize::MAX);
-    let refused = grown.err().expect(&rt, "so much memory");
-    holds(
-        &rt,
-        DecodeError::<SipError>::from_alloc(refused).is_memory(),
-    );
-    holds(
-        &rt,
-        DecodeError::<SipError>::from_alloc(NoMemory).is_memory(),
-    );
-    same(&rt, EncodeError::from(NoMemory), EncodeError::NoMemory);
 }
 
 /// So many octets that no memory has room for them, in a function that encodes and one that writes.
@@ -530,60 +548,22 @@ fn writes(alloc: Global) -> Result<Vec<u8>, WriteError> {
     Ok(Vec::with_capacity(alloc, usize::MAX)?)
 }
 
+/// A refused allocation, a refused push, and one that was refused elsewhere.
 #[test]
 fn want_of_memory_in_writers(rt: HostRuntime) {
-    let encoded = encodes(rt.alloc());
-    holds(&rt, matches!(encoded, Err(EncodeError::NoMemory)));
-    let written = writes(rt.alloc());
+    let out = EncodeError::NoMemory;
+    same(&rt, encodes(rt.alloc()).err(), Some(out));
+    same(&rt, EncodeError::from(AllocFailed { value: 7u8 }), out);
+    same(&rt, EncodeError::from(NoMemory), out);
     holds(
         &rt,
-        matches!(written, Err(WriteError::Refused(EncodeError::NoMemory))),
+        matches!(
+            writes(rt.alloc()),
+            Err(WriteError::Refused(EncodeError::NoMemory))
+        ),
     );
-}
-
-/// A refused push, and one that was refused elsewhere.
-#[test]
-fn refusals_in_writers(rt: HostRuntime) {
-    same(
-        &rt,
-        EncodeError::from(AllocFailed { value: 7u8 }),
-        EncodeError::NoMemory,
-    );
-    shows(
-        &rt,
-        rt.alloc(),
-        &WriteError::from(AllocFailed { value: 7u8 }),
-        "out of memory",
-    );
-    shows(
-        &rt,
-        rt.alloc(),
-        &WriteError::from(NoMemory),
-        "out of memory",
-    );
-}
-
-#[test]
-fn content_stays(rt: HostRuntime) {
-    let error = DecodeError::<Infallible>::content(ContentError::from("bad"), Pos::from(3));
-    let converted = error.convert::<SipError>();
-    holds(&rt, !converted.is_memory());
-    holds(&rt, !converted.is_source());
-    shows(&rt, rt.alloc(), &converted, "bad (at position 3)");
-}
-
-#[test]
-fn content_is_handed_out(rt: HostRuntime) {
-    let error = DecodeError::<Infallible>::content(ContentError::from("bad"), Pos::from(3));
-    match error.into_content() {
-        Ok(ContentError::Static(text)) => same(&rt, text.as_str(), "bad"),
-        _ => panic!(rt; "another error"),
-    }
-}
-
-#[test]
-fn source_errors(rt: HostRuntime) {
-    let error = DecodeError::from(SipError);
-    holds(&rt, error.is_source());
-    holds(&rt, !error.is_memory());
+    let pushed = WriteError::from(AllocFailed { value: 7u8 });
+    shows(&rt, rt.alloc(), &pushed, "out of memory");
+    let elsewhere = WriteError::from(NoMemory);
+    shows(&rt, rt.alloc(), &elsewhere, "out of memory");
 }

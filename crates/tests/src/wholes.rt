@@ -2,13 +2,12 @@
 //! from outside.
 ghost use Rattle.bcder.specs.calls.Views.{Moved};
 
-use crate::asserts::{done, holds, same, shows};
-use crate::over::{failing_sip, shared, sip};
+use crate::asserts::{Case, done, holds, same};
+use crate::over::{Row, check_all, failing_sip};
 use bcder::decode::{
     CaptureSource, Constructed, DecodeError, LendingSource, LimitedSource, SliceSource, Source,
 };
 use bcder::{Mode, Tag};
-use std::alloc::Global;
 use std::process::Abort;
 use support::decoding::take_empty;
 
@@ -16,44 +15,6 @@ use support::decoding::take_empty;
 #[tactic(auto, using(bcder::specs::laws::Moved::untouched_is_moved))]
 fn all_empty<S: Source + Drop>(source: S) -> Result<bool, DecodeError<S::Error>> {
     Mode::Der.decode_all(source, |cons| take_empty(cons))
-}
-
-/// NULL, or nothing, is all that there is.
-fn check_alone<S: Source + Drop>(rt: &impl Abort, source: S, wanted: bool) {
-    same(rt, done(rt, all_empty(source)), wanted);
-}
-
-#[test]
-fn all_is_decoded(rt: HostRuntime) {
-    for (octets, wanted) in [(&[0x05, 0x00][..], true), (&[][..], false)] {
-        check_alone(&rt, SliceSource::new(octets), wanted);
-        check_alone(&rt, shared(&rt, rt.alloc(), octets), wanted);
-        check_alone(&rt, sip(&rt, rt.alloc(), octets), wanted);
-    }
-}
-
-/// The octets behind NULL are refused, at the first of them.
-fn check_behind<S: Source + Drop>(rt: &impl Abort, alloc: Global, source: S) {
-    match all_empty(source) {
-        Ok(_) => holds(rt, false),
-        Err(error) => shows(rt, alloc, &error, "trailing data (at position 2)"),
-    }
-}
-
-/// NULL, and behind it an empty SEQUENCE, one octet, and octets that are no header.
-const BEHIND: [&[u8]; 3] = [
-    &[0x05, 0x00, 0x30, 0x00],
-    &[0x05, 0x00, 0x00],
-    &[0x05, 0x00, 0xFF, 0xFF, 0xFF, 0xFF],
-];
-
-#[test]
-fn octets_behind_are_refused(rt: HostRuntime) {
-    for octets in BEHIND {
-        check_behind(&rt, rt.alloc(), SliceSource::new(octets));
-        check_behind(&rt, rt.alloc(), shared(&rt, rt.alloc(), octets));
-        check_behind(&rt, rt.alloc(), sip(&rt, rt.alloc(), octets));
-    }
 }
 
 #[test]
@@ -117,19 +78,20 @@ fn decode_inside<S: Source + Drop>(
     outer.decode_all(source, |cons| take_inside(inner, cons))
 }
 
-/// What stands inside is shown as this text, and nothing else.
-fn check_inside<S: Source + Drop>(
-    rt: &impl Abort,
-    alloc: Global,
-    source: S,
-    modes: (Mode, Mode),
-    wanted: &str,
-) {
-    match decode_inside(source, modes) {
-        Ok(found) => shows(rt, alloc, &found, wanted),
-        Err(error) => shows(rt, alloc, &error, wanted),
-    }
+/// What is decoded, and has to be all of a source.
+#[derive(Clone, Copy)]
+enum Way {
+    /// An empty value, in DER. It is true if there is one.
+    Empty,
+
+    /// A BOOLEAN in a SEQUENCE inside an OCTET STRING in a SEQUENCE, in these modes.
+    Inside(Mode, Mode),
 }
+
+/// Octets, what is decoded, and the text of what is found or of the error. Without a text, content
+/// is refused.
+#[derive(Clone, Copy)]
+struct Line(&'static [u8], Way, Option<&'static str>);
 
 /// FF is true in each mode; 2A in BER alone, whatever the mode around it; and an octet that is left
 /// behind the SEQUENCE inside.
@@ -139,44 +101,74 @@ const OTHER: &[u8] = &[0x30, 0x07, 0x04, 0x05, 0x30, 0x03, 0x01, 0x01, 0x2A];
 
 const LEFT: &[u8] = &[0x30, 0x08, 0x04, 0x06, 0x30, 0x03, 0x01, 0x01, 0xFF, 0x00];
 
-const INSIDE: [(&[u8], (Mode, Mode), &str); 5] = [
-    (TRUE, (Mode::Der, Mode::Der), "true"),
-    (OTHER, (Mode::Der, Mode::Ber), "true"),
-    (OTHER, (Mode::Der, Mode::Der), "no boolean (at position 8)"),
-    (OTHER, (Mode::Ber, Mode::Der), "no boolean (at position 8)"),
-    (
+/// Behind NULL are an empty SEQUENCE, one octet, and octets that are no header; they are refused at
+/// the first of them. In the last row the SEQUENCE inside is longer than the OCTET STRING.
+const LINES: [Line; 11] = [
+    Line(&[0x05, 0x00], Way::Empty, Some("true")),
+    Line(&[], Way::Empty, Some("false")),
+    Line(
+        &[0x05, 0x00, 0x30, 0x00],
+        Way::Empty,
+        Some("trailing data (at position 2)"),
+    ),
+    Line(
+        &[0x05, 0x00, 0x00],
+        Way::Empty,
+        Some("trailing data (at position 2)"),
+    ),
+    Line(
+        &[0x05, 0x00, 0xFF, 0xFF, 0xFF, 0xFF],
+        Way::Empty,
+        Some("trailing data (at position 2)"),
+    ),
+    Line(TRUE, Way::Inside(Mode::Der, Mode::Der), Some("true")),
+    Line(OTHER, Way::Inside(Mode::Der, Mode::Ber), Some("true")),
+    Line(
+        OTHER,
+        Way::Inside(Mode::Der, Mode::Der),
+        Some("no boolean (at position 8)"),
+    ),
+    Line(
+        OTHER,
+        Way::Inside(Mode::Ber, Mode::Der),
+        Some("no boolean (at position 8)"),
+    ),
+    Line(
         LEFT,
-        (Mode::Der, Mode::Der),
-        "trailing data (at position 9)",
+        Way::Inside(Mode::Der, Mode::Der),
+        Some("trailing data (at position 9)"),
+    ),
+    Line(
+        &[
+            0x30, 0x09, 0x04, 0x05, 0x30, 0x05, 0x01, 0x01, 0xFF, 0x05, 0x00,
+        ],
+        Way::Inside(Mode::Der, Mode::Der),
+        None,
     ),
 ];
 
-#[test]
-fn values_inside_octets(rt: HostRuntime) {
-    for (octets, modes, wanted) in INSIDE {
-        check_inside(&rt, rt.alloc(), SliceSource::new(octets), modes, wanted);
-        check_inside(
-            &rt,
-            rt.alloc(),
-            shared(&rt, rt.alloc(), octets),
-            modes,
-            wanted,
-        );
-        check_inside(&rt, rt.alloc(), sip(&rt, rt.alloc(), octets), modes, wanted);
+impl Row for Line {
+    fn octets(&self) -> &[u8] {
+        self.0
+    }
+
+    fn check<S: Source + Drop, R: Abort>(&self, case: &Case<'_, R>, source: S) {
+        let found = match self.1 {
+            Way::Empty => all_empty(source),
+            Way::Inside(outer, inner) => decode_inside(source, (outer, inner)),
+        };
+        match (found, self.2) {
+            (Ok(found), Some(text)) => case.shows(&found, text),
+            (Err(error), Some(text)) => case.shows(&error, text),
+            (Err(error), None) => case.holds(error.content_error().is_some()),
+            _ => case.holds(false),
+        }
     }
 }
 
-/// The SEQUENCE inside is longer than the OCTET STRING.
 #[test]
-fn values_inside_end_with_the_octets(rt: HostRuntime) {
-    let octets = &[
-        0x30, 0x09, 0x04, 0x05, 0x30, 0x05, 0x01, 0x01, 0xFF, 0x05, 0x00,
-    ];
-    let found = decode_inside(SliceSource::new(octets), (Mode::Der, Mode::Der));
-    holds(
-        &rt,
-        found.is_err_and(|error| error.content_error().is_some()),
-    );
+fn all_of_a_source(rt: HostRuntime) {
+    check_all(&rt, rt.alloc(), &LINES);
 }
 
 /// The octets of an OCTET STRING, lent.

@@ -4,8 +4,8 @@
 
 ghost use Rattle.std.specs.Prelude.{◌<◌};
 
-use crate::asserts::{done, holds, same};
-use crate::encodes::{refuses, sizes, writes};
+use crate::asserts::Case;
+use crate::encodes::{Wanted, are_wanted, writes};
 use bcder::decode::{SliceSource, Source};
 use bcder::encode::{EncodeError, PrimitiveContent, Values, write_header};
 use bcder::{Captured, Mode, OctetString, Tag};
@@ -15,26 +15,26 @@ use std::process::Abort;
 use support::encoders::{Nulls, Zeros};
 
 /// Returns octets that differ from those near them.
-fn octets_of(rt: &impl Abort, alloc: Global, len: usize) -> Vec<u8> {
-    let mut octets = Vec::new(alloc);
+fn octets_of(case: &Case<'_, impl Abort>, len: usize) -> Vec<u8> {
+    let mut octets = Vec::new(case.alloc);
     for index in 0..len {
-        done(rt, octets.push((index % 251) as u8));
+        case.done(octets.push((index % 251) as u8));
     }
     octets
 }
 
 /// Returns the first octets after a header, the octets that follow them after the next header, and
 /// so on.
-fn spell(rt: &impl Abort, alloc: Global, octets: &[u8], pieces: &[(&[u8], usize)]) -> Vec<u8> {
-    let mut spelled = Vec::new(alloc);
+fn spell(case: &Case<'_, impl Abort>, octets: &[u8], pieces: &[(&[u8], usize)]) -> Vec<u8> {
+    let mut spelled = Vec::new(case.alloc);
     let mut rest = octets;
     for (header, count) in pieces {
         let (piece, behind) = rest.split_at((*count).min(rest.len()));
-        done(rt, spelled.extend_from_slice(*header));
-        done(rt, spelled.extend_from_slice(piece));
+        case.done(spelled.extend_from_slice(*header));
+        case.done(spelled.extend_from_slice(piece));
         rest = behind;
     }
-    holds(rt, rest.is_empty());
+    case.holds(rest.is_empty());
     spelled
 }
 
@@ -47,30 +47,24 @@ fn read<S: Source>(alloc: Global, mode: Mode, source: &mut S) -> Option<OctetStr
 }
 
 /// Returns the string that octets are in a mode.
-fn taken(rt: &impl Abort, alloc: Global, mode: Mode, octets: &[u8]) -> OctetString {
-    done(
-        rt,
-        read(alloc, mode, &mut SliceSource::new(octets)).ok_or(()),
-    )
+fn taken(case: &Case<'_, impl Abort>, mode: Mode, octets: &[u8]) -> OctetString {
+    case.done(read(case.alloc, mode, &mut SliceSource::new(octets)).ok_or(()))
 }
 
 /// Returns a string of these octets, cut into segments of this length.
-fn cut(rt: &impl Abort, alloc: Global, octets: &[u8], each: usize) -> OctetString
+fn cut(case: &Case<'_, impl Abort>, octets: &[u8], each: usize) -> OctetString
     requires { 0 < each }
 {
-    let mut segments = Vec::new(alloc);
+    let mut segments = Vec::new(case.alloc);
     for segment in octets.chunks(each) {
         let encoder = OctetString::encode_slice(segment);
-        holds(rt, encoder.write_encoded(Mode::Ber, &mut segments).is_ok());
+        case.holds(encoder.write_encoded(Mode::Ber, &mut segments).is_ok());
     }
     let len = segments.len();
-    let mut encoding = Vec::new(alloc);
-    holds(
-        rt,
-        write_header(&mut encoding, Tag::OCTET_STRING, true, len).is_ok(),
-    );
-    done(rt, encoding.extend_from_slice(segments.as_slice()));
-    taken(rt, alloc, Mode::Ber, encoding.as_slice())
+    let mut encoding = Vec::new(case.alloc);
+    case.holds(write_header(&mut encoding, Tag::OCTET_STRING, true, len).is_ok());
+    case.done(encoding.extend_from_slice(segments.as_slice()));
+    taken(case, Mode::Ber, encoding.as_slice())
 }
 
 // ---- segments
@@ -142,37 +136,39 @@ const SEGMENTED: [(usize, &[u8], &[(&[u8], usize)]); 9] = [
 ];
 
 /// Checks that a string is written so in CER and DER, however it was cut.
-fn check_string(rt: &impl Abort, alloc: Global, string: &OctetString, cer: &[u8], der: &[u8]) {
-    writes(rt, alloc, &string.encode_ref(), Mode::Cer, cer);
-    writes(rt, alloc, &string.encode_ref(), Mode::Der, der);
+fn check_string(case: &Case<'_, impl Abort>, string: &OctetString, cer: &[u8], der: &[u8]) {
+    writes(case, &string.encode_ref(), Mode::Cer, cer);
+    writes(case, &string.encode_ref(), Mode::Der, der);
 }
 
 #[test]
 fn octets_in_segments(rt: HostRuntime) {
-    let alloc = rt.alloc();
-    for (len, header, pieces) in SEGMENTED {
-        let octets = octets_of(&rt, alloc, len);
-        let cer = spell(&rt, alloc, octets.as_slice(), pieces);
-        let der = spell(&rt, alloc, octets.as_slice(), &[(header, len)]);
+    let case = Case::new(&rt, rt.alloc(), 0);
+    for (row, (len, header, pieces)) in SEGMENTED.iter().enumerate() {
+        let case = Case::new(&rt, rt.alloc(), row);
+        let octets = octets_of(&case, *len);
+        let cer = spell(&case, octets.as_slice(), *pieces);
+        let der = spell(&case, octets.as_slice(), &[(*header, *len)]);
         let encoder = OctetString::encode_slice(octets.as_slice());
-        writes(&rt, alloc, &encoder, Mode::Ber, der.as_slice());
-        writes(&rt, alloc, &encoder, Mode::Cer, cer.as_slice());
-        writes(&rt, alloc, &encoder, Mode::Der, der.as_slice());
+        let (cer, der) = (Wanted::Octets(&cer), Wanted::Octets(&der));
+        are_wanted(&case, &encoder, [der, cer, der]);
     }
 }
 
 #[test]
 fn strings_in_segments(rt: HostRuntime) {
+    let case = Case::new(&rt, rt.alloc(), 0);
     let alloc = rt.alloc();
-    for (len, header, pieces) in SEGMENTED {
-        let octets = octets_of(&rt, alloc, len);
-        let cer = spell(&rt, alloc, octets.as_slice(), pieces);
-        let der = spell(&rt, alloc, octets.as_slice(), &[(header, len)]);
-        let whole = OctetString::new(done(&rt, Bytes::copy_from_slice(alloc, octets.as_slice())));
-        check_string(&rt, alloc, &whole, cer.as_slice(), der.as_slice());
+    for (row, (len, header, pieces)) in SEGMENTED.iter().enumerate() {
+        let case = Case::new(&rt, rt.alloc(), row);
+        let octets = octets_of(&case, *len);
+        let cer = spell(&case, octets.as_slice(), *pieces);
+        let der = spell(&case, octets.as_slice(), &[(*header, *len)]);
+        let whole = OctetString::new(case.done(Bytes::copy_from_slice(alloc, octets.as_slice())));
+        check_string(&case, &whole, cer.as_slice(), der.as_slice());
         for each in [7, 300, 999, 1000, 1001, 3000] {
-            let string = cut(&rt, alloc, octets.as_slice(), each);
-            check_string(&rt, alloc, &string, cer.as_slice(), der.as_slice());
+            let string = cut(&case, octets.as_slice(), each);
+            check_string(&case, &string, cer.as_slice(), der.as_slice());
         }
     }
 }
@@ -180,13 +176,14 @@ fn strings_in_segments(rt: HostRuntime) {
 /// Checks that what is written in CER is read, and written back unchanged.
 #[test]
 fn segments_are_read_back(rt: HostRuntime) {
-    let alloc = rt.alloc();
-    for (len, _, pieces) in SEGMENTED {
-        let octets = octets_of(&rt, alloc, len);
-        let cer = spell(&rt, alloc, octets.as_slice(), pieces);
-        let string = taken(&rt, alloc, Mode::Cer, cer.as_slice());
-        holds(&rt, string.eq_octets(octets.as_slice()));
-        writes(&rt, alloc, &string.encode(), Mode::Cer, cer.as_slice());
+    let case = Case::new(&rt, rt.alloc(), 0);
+    for (row, (len, _, pieces)) in SEGMENTED.iter().enumerate() {
+        let case = Case::new(&rt, rt.alloc(), row);
+        let octets = octets_of(&case, *len);
+        let cer = spell(&case, octets.as_slice(), *pieces);
+        let string = taken(&case, Mode::Cer, cer.as_slice());
+        case.holds(string.eq_octets(octets.as_slice()));
+        writes(&case, &string.encode(), Mode::Cer, cer.as_slice());
     }
 }
 
@@ -239,107 +236,94 @@ const CAME: [[&[u8]; 4]; 7] = [
 
 #[test]
 fn strings_as_they_came(rt: HostRuntime) {
-    let alloc = rt.alloc();
-    for [octets, ber, cer, der] in CAME {
-        let string = taken(&rt, alloc, Mode::Ber, octets);
-        check_string(&rt, alloc, &string, cer, der);
-        writes(&rt, alloc, &string.encode(), Mode::Ber, ber);
+    let case = Case::new(&rt, rt.alloc(), 0);
+    for (row, [octets, ber, cer, der]) in CAME.iter().enumerate() {
+        let case = Case::new(&rt, rt.alloc(), row);
+        let string = taken(&case, Mode::Ber, *octets);
+        check_string(&case, &string, *cer, *der);
+        writes(&case, &string.encode(), Mode::Ber, *ber);
     }
 }
 
 #[test]
 fn strings_under_another_tag(rt: HostRuntime) {
-    let alloc = rt.alloc();
+    let case = Case::new(&rt, rt.alloc(), 0);
     let octets = [0x24, 0x07, 0x04, 0x00, 0x04, 0x00, 0x04, 0x01, 0x61];
-    let string = taken(&rt, alloc, Mode::Ber, octets.as_slice());
+    let string = taken(&case, Mode::Ber, octets.as_slice());
     let encoder = string.encode_ref_as(Tag::CTX_0);
-    let ber = [0xA0, 0x07, 0x04, 0x00, 0x04, 0x00, 0x04, 0x01, 0x61];
-    writes(&rt, alloc, &encoder, Mode::Ber, ber.as_slice());
-    writes(&rt, alloc, &encoder, Mode::Der, &[0x80, 0x01, 0x61]);
-    writes(
-        &rt,
-        alloc,
-        &string.encode_as(Tag::CTX_1),
-        Mode::Cer,
-        &[0x81, 0x01, 0x61],
-    );
+    let basic = Wanted::Octets(&[0xA0, 0x07, 0x04, 0x00, 0x04, 0x00, 0x04, 0x01, 0x61]);
+    let strict = Wanted::Octets(&[0x80, 0x01, 0x61]);
+    are_wanted(&case, &encoder, [basic, strict, strict]);
+    let encoder = string.encode_as(Tag::CTX_1);
+    writes(&case, &encoder, Mode::Cer, &[0x81, 0x01, 0x61]);
 }
 
 // ---- values that are wrapped
 
 #[test]
 fn a_value_in_a_string(rt: HostRuntime) {
+    let case = Case::new(&rt, rt.alloc(), 0);
     let alloc = rt.alloc();
     let wrapped = OctetString::encode_wrapped(alloc, Mode::Der, true.encode());
-    for mode in [Mode::Ber, Mode::Cer, Mode::Der] {
-        writes(&rt, alloc, &wrapped, mode, &[0x04, 0x03, 0x01, 0x01, 0xFF]);
-    }
+    let once = Wanted::Octets(&[0x04, 0x03, 0x01, 0x01, 0xFF]);
+    are_wanted(&case, &wrapped, [once; 3]);
     let twice = OctetString::encode_wrapped(alloc, Mode::Cer, &wrapped);
-    writes(
-        &rt,
-        alloc,
-        &twice,
-        Mode::Der,
-        &[0x04, 0x05, 0x04, 0x03, 0x01, 0x01, 0xFF],
-    );
+    let octets = [0x04, 0x05, 0x04, 0x03, 0x01, 0x01, 0xFF];
+    writes(&case, &twice, Mode::Der, &octets);
 }
 
 /// Checks an encoding of 1001 octets, inside a string in CER.
 #[test]
 fn a_long_value_in_a_string(rt: HostRuntime) {
+    let case = Case::new(&rt, rt.alloc(), 0);
     let alloc = rt.alloc();
-    let value = octets_of(&rt, alloc, 997);
-    let inner = spell(
-        &rt,
-        alloc,
-        value.as_slice(),
-        &[(&[0x04, 0x82, 0x03, 0xE5], 997)],
-    );
+    let value = octets_of(&case, 997);
+    let inner = spell(&case, value.as_slice(), &[(&[0x04, 0x82, 0x03, 0xE5], 997)]);
     let pieces: [(&[u8], usize); 3] = [
         (&[0x24, 0x80, 0x04, 0x82, 0x03, 0xE8], 1000),
         (&[0x04, 0x01], 1),
         (&[0x00, 0x00], 0),
     ];
-    let cer = spell(&rt, alloc, inner.as_slice(), &pieces);
+    let cer = spell(&case, inner.as_slice(), &pieces);
     let der = spell(
-        &rt,
-        alloc,
+        &case,
         inner.as_slice(),
         &[(&[0x04, 0x82, 0x03, 0xE9], 1001)],
     );
     let octets = value.as_slice();
     let wrapped = OctetString::encode_wrapped(alloc, Mode::Der, octets.encode());
-    same(&rt, cer.len(), 1011);
-    writes(&rt, alloc, &wrapped, Mode::Cer, cer.as_slice());
-    writes(&rt, alloc, &wrapped, Mode::Ber, der.as_slice());
+    case.same(cer.len(), 1011);
+    writes(&case, &wrapped, Mode::Cer, cer.as_slice());
+    writes(&case, &wrapped, Mode::Ber, der.as_slice());
 }
 
 // ---- refusals
 
 #[test]
 fn strings_with_the_tag_of_the_end(rt: HostRuntime) {
-    let alloc = rt.alloc();
-    let octets = octets_of(&rt, alloc, 1001);
+    let case = Case::new(&rt, rt.alloc(), 0);
+    let octets = octets_of(&case, 1001);
     let slice = OctetString::encode_slice_as(octets.as_slice(), Tag::END_OF_VALUE);
-    let string = cut(&rt, alloc, octets.as_slice(), 7).encode_as(Tag::END_OF_VALUE);
-    for mode in [Mode::Ber, Mode::Cer, Mode::Der] {
-        refuses(&rt, alloc, &slice, mode, EncodeError::EndOfValueTag);
-        refuses(&rt, alloc, &string, mode, EncodeError::EndOfValueTag);
-    }
+    let string = cut(&case, octets.as_slice(), 7).encode_as(Tag::END_OF_VALUE);
+    let refused = [Wanted::Refused(EncodeError::EndOfValueTag); 3];
+    are_wanted(&case, &slice, refused);
+    are_wanted(&case, &string, refused);
 }
 
 #[test]
 fn values_that_are_refused_in_a_string(rt: HostRuntime) {
+    let case = Case::new(&rt, rt.alloc(), 0);
     let alloc = rt.alloc();
-    let long = Err(EncodeError::LengthTooLarge);
-    let over = Err(EncodeError::SizeOverflow);
+    let long = Wanted::Refused(EncodeError::LengthTooLarge);
+    let over = Wanted::Refused(EncodeError::SizeOverflow);
     let other = Captured::empty(alloc, Mode::Ber);
     let wrapped = OctetString::encode_wrapped(alloc, Mode::Der, other);
-    sizes(&rt, alloc, &wrapped, [Err(EncodeError::CapturedMode); 3]);
+    let refused = Wanted::Refused(EncodeError::CapturedMode);
+    are_wanted(&case, &wrapped, [refused; 3]);
     let wrapped = OctetString::encode_wrapped(alloc, Mode::Der, Zeros(4294967296).encode());
-    sizes(&rt, alloc, &wrapped, [long; 3]);
+    are_wanted(&case, &wrapped, [long; 3]);
     let wrapped = OctetString::encode_wrapped(alloc, Mode::Ber, Nulls(2147483648));
-    sizes(&rt, alloc, &wrapped, [long, Ok(4312147172), long]);
+    are_wanted(&case, &wrapped, [long, Wanted::Size(4312147172), long]);
     let wrapped = OctetString::encode_wrapped(alloc, Mode::Ber, Nulls(9223372036854775807));
-    sizes(&rt, alloc, &wrapped, [long, over, long]);
+    are_wanted(&case, &wrapped, [long, over, long]);
 }
