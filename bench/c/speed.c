@@ -54,6 +54,14 @@ static size_t all_d2i(const file_t *f) {
   return is;
 }
 
+static uint8_t room[1 << 25];
+static size_t converted(const file_t *f, uint8_t to) {
+  size_t size;
+  return bcder_convert(BCDER_DER, to, f->data, f->len, room, sizeof room, &size) == BCDER_OK ? size : 0;
+}
+static size_t to_cer(const file_t *f) { return converted(f, BCDER_CER); }
+static size_t to_der(const file_t *f) { return converted(f, BCDER_DER); }
+
 static double now(void) {
   struct timespec t;
   clock_gettime(CLOCK_PROCESS_CPUTIME_ID, &t);
@@ -64,7 +72,8 @@ int main(int argc, char **argv) {
   static const struct { const char *name; size_t (*run)(const file_t *); } ways[] = {
     {"bcder_check", all_checked}, {"bcder_take, each value", all_read},
     {"ASN1_get_object (OpenSSL), each value", all_openssl},
-    {"asn1_get_tag_der (libtasn1), each value", all_tasn1}, {"d2i_X509 (OpenSSL)", all_d2i}};
+    {"asn1_get_tag_der (libtasn1), each value", all_tasn1}, {"d2i_X509 (OpenSSL)", all_d2i},
+    {"bcder_convert, to CER", to_cer}, {"bcder_convert, to DER", to_der}};
   enum { WAYS = sizeof ways / sizeof *ways };
   size_t count = 0, octets = 0;
   file_t *files = calloc((size_t)argc, sizeof *files);
