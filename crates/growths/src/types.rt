@@ -57,19 +57,28 @@ type Plain<'a> = Sequence<(u32, OctetStringRef<&'a [u8]>, Option<u8>)>;
 /// The octets of such a value.
 const PLAIN: &[u8] = &[0x30, 0x07, 0x02, 0x01, 0x05, 0x04, 0x02, 0x07, 0x08];
 
-/// Decodes it and writes it to a target that has room.
-pub fn is_plain_again(alloc: Global, target: &mut Vec<u8>) -> bool {
+/// Decodes octets as a value of the type, and writes it to a target that has room.
+fn is_again<T: Decode<SliceSource<'static>> + Encode>(
+    alloc: Global,
+    octets: &'static [u8],
+    target: &mut Vec<u8>,
+) -> bool {
     target.clear();
-    match decode::<Plain<'static>, &'static [u8]>(alloc, Mode::Der, PLAIN) {
+    match decode::<T, &'static [u8]>(alloc, Mode::Der, octets) {
         Ok(value) => {
-            value.encoded_len_as(Tag::SEQUENCE, Mode::Der) == Ok(PLAIN.len())
+            value.encoded_len_as(Tag::SEQUENCE, Mode::Der) == Ok(octets.len())
                 && value
                     .write_encoded_as(Tag::SEQUENCE, Mode::Der, target)
                     .is_ok()
-                && target.as_slice() == PLAIN
+                && target.as_slice() == octets
         }
         Err(_) => false,
     }
+}
+
+/// Decodes a value without memory, and writes it to a target that has room.
+pub fn is_plain_again(alloc: Global, target: &mut Vec<u8>) -> bool {
+    is_again::<Plain<'static>>(alloc, PLAIN, target)
 }
 
 pub fn run(rt: &HostRuntime) -> Result<(), Error> {
