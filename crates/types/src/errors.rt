@@ -9,12 +9,12 @@ ghost use Rattle.asn1.specs.declared.choice.Choice2.TheVariants.{One, Two};
 
 use crate::rows::{Read, explains};
 use asn1::{
-    Any, Choice2, Choice3, Context, DecodeDefinition, DefaultValue, Definition, Explicit,
-    ExtensionAdditions, Implicit, OrDefault, Sequence, SequenceOf, Set, SetOf, TypeError,
-    Utf8StringRef, decode_octets,
+    Any, Choice2, Choice3, Context, Decode, DecodeDefinition, DecodeParts, DefaultValue,
+    Definition, Explicit, ExtensionAdditions, Implicit, OrDefault, Parts, Sequence, SequenceOf,
+    SequenceTag, Set, SetOf, Trace, Type, TypeError, Utf8StringRef, decode_octets,
 };
-use bcder::decode::Source;
-use bcder::{Mode, NoMemory};
+use bcder::decode::{Constructed, DecodeError, Source};
+use bcder::{Mode, NoMemory, Tag};
 use std::alloc::Global;
 
 /// `Range ::= SEQUENCE { from INTEGER (0..255), until INTEGER (0..255) OPTIONAL }`.
@@ -24,8 +24,13 @@ struct Range {
     until: Option<u8>,
 }
 
-impl Definition for Range {
-    type As = Sequence<(u8, Option<u8>)>;
+/// What defines [`Range`].
+type RangeParts = Sequence<(u8, Option<u8>)>;
+
+impl Parts for Range {
+    type As = RangeParts;
+
+    type Tags = SequenceTag;
 
     const NAME: &'static str = "Range";
 
@@ -33,13 +38,28 @@ impl Definition for Range {
 
     ghost parts = { λ x. (x.from, x.until) };
 
-    fn from_parts(value: Sequence<(u8, Option<u8>)>) -> Range {
+    ghost typed = { ⟦<RangeParts as Type>⟧ };
+
+    fn from_parts(value: RangeParts) -> Range {
         let Sequence((from, until)) = value;
         Range { from, until }
     }
+
+    fn parts_are_one() {
+        <RangeParts>::values_are_one();
+    }
 }
 
-impl<S: Source> DecodeDefinition<S> for Range {}
+impl<S: Source> DecodeParts<S> for Range {
+    fn trace_parts<P: Trace>(
+        alloc: Global,
+        cons: &mut Constructed<'_, S>,
+        tag: Tag,
+        path: &mut P,
+    ) -> Result<Option<RangeParts>, DecodeError<S::Error>> {
+        <RangeParts>::trace_opt_if(alloc, cons, tag, path)
+    }
+}
 
 /// `Answer ::= CHOICE { yes BOOLEAN, many Range }`.
 #[derive(Debug, Drop)]
