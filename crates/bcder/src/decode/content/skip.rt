@@ -268,9 +268,30 @@ where
     Ok(())
 }
 
+/// Calls `skip_content`, with the stack space of the result cleared here and not before a primitive
+/// value is passed.
+#[inline(always)]
+fn skip_content_on<S: Source, F>(
+    source: &mut LimitedSource<S>,
+    mode: Mode,
+    alloc: Global,
+    outermost: Header,
+    op: &mut F,
+) -> Result<(), Interrupt<S::Error>>
+where
+    F: FnMut(Tag, bool, usize) -> Result<(), ContentError>,
+    requires callable { F.IsAlwaysCallable op.old }
+    requires fits { FitsOwed (len_of outermost.form) source.old.limit }
+    ensures { RanOverSource S.stream F.step source mode outermost op result }
+{
+    let skipped = skip_content(source, mode, alloc, outermost, op);
+    skipped
+}
+
 impl<'a, S: Source> Constructed<'a, S> {
-    /// Returns the error for an interrupt, at the current position.
-    #[cold]
+    /// Returns the error for an interrupt, at the current position. It is inlined for the same
+    /// reason as `stop_error`.
+    #[inline(always)]
     fn interrupt_error(&self, interrupt: Interrupt<S::Error>) -> DecodeError<S::Error>
         ensures content { IsOfContent (interrupt_cause interrupt) → IsRefusal result }
         ensures source { interrupt_cause interrupt ≡ of_source → cause_of result ≡ of_source }
@@ -284,8 +305,8 @@ impl<'a, S: Source> Constructed<'a, S> {
         }
     }
 
-    /// Does what `skip_opt` does, as a call of its own.
-    #[inline(never)]
+    /// Does what `skip_opt` does.
+    #[inline(always)]
     fn skip_next<F>(
         &mut self,
         alloc: Global,
@@ -304,15 +325,13 @@ impl<'a, S: Source> Constructed<'a, S> {
                     if let Err(error) = op(header.tag, false, 0) {
                         return Err(self.interrupt_error(Interrupt::Closure(error)));
                     }
-                    return match self.source.skip_owed(len) {
-                        Ok(()) => {
-                            self.state = State::Open;
-                            Ok(Some(()))
-                        }
-                        Err(stop) => Err(self.interrupt_error(Interrupt::Stopped(stop))),
-                    };
+                    if let Err(stop) = self.source.skip_owed(len) {
+                        return Err(self.interrupt_error(Interrupt::Stopped(stop)));
+                    }
+                    self.state = State::Open;
+                    return Ok(Some(()));
                 }
-                match skip_content(self.source, self.mode, alloc, header, op) {
+                match skip_content_on(self.source, self.mode, alloc, header, op) {
                     Ok(()) => {
                         self.state = State::Open;
                         Ok(Some(()))

@@ -242,6 +242,7 @@ impl<V: Values> Encoder for Constructed<V> {
         Ok(whole)
     }
 
+    #[inline(always)]
     fn put<W: io::Write>(
         &self,
         mode: Mode,

@@ -71,6 +71,7 @@ pub(crate) fn note_joined<P: Parts>(
 }
 
 /// Writes parts that are known to have an encoding.
+#[inline(always)]
 pub(crate) fn write_known_parts<P: Parts, W: io::Write>(
     parts: &P,
     mode: Mode,
@@ -119,6 +120,7 @@ impl Parts for End {
         Ok(Some(0))
     }
 
+    #[inline(always)]
     #[tactic(auto, using(crate::proofs::Noting::none_read))]
     fn write_parts<W: io::Write>(
         &self,
@@ -159,6 +161,7 @@ impl<'a, V: Values, R: Parts> Parts for Chain<'a, V, R> {
         }
     }
 
+    #[inline(always)]
     fn write_parts<W: io::Write>(
         &self,
         mode: Mode,

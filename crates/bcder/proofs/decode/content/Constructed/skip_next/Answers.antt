@@ -15,9 +15,9 @@ use Rattle.bcder.proofs.RunSteps.{entered_fits, octets_refused, octets_passed, o
 use Rattle.bcder.proofs.decode.content.Constructed.skip_next.Given.{F-step}
 use Rattle.bcder.proofs.decode.content.Constructed.skip_next.Goals as goal
 
-pub skip_content-requires-clause-fits : goal.skip_content-requires-clause-fits
+pub skip_content_on-requires-clause-fits : goal.skip_content_on-requires-clause-fits
 unfolding of_constructed
-skip_content-requires-clause-fits g c =
+skip_content_on-requires-clause-fits g c =
     let e = rw c.in-Ok-Some.field-0-is at c.in-Ok-Some.ensures.entered in
     entered_fits (of_constructed g.S.Source.stream c.args.self.now) (of_constructed g.S.Source.stream c.next_header.new.self)
     (header_of c.in-Ok-Some.header) _ refl e.1
@@ -59,9 +59,9 @@ returns-in-Err-op-clause-skipped g c =
     c.interrupt_error.ensures.memory c.interrupt_error.ensures.closure
     (octets_refused _ _ (header_of (octets_header c.in-Ok-Some.header.tag c.in-Primitive.len)) _ _ _ refl _ _ c.in-Err-op.ensures)
 
-pub returns-in-Ok-clause-moves : goal.returns-in-Ok-clause-moves
+pub returns-in-Primitive-clause-moves : goal.returns-in-Primitive-clause-moves
 unfolding of_constructed
-returns-in-Ok-clause-moves g c =
+returns-in-Primitive-clause-moves g c =
     let e = rw c.in-Ok-Some.field-0-is at c.in-Ok-Some.ensures.entered in
     let w = within_constructed g.S.Source.stream g.met.S.Source.sound c.args.self.now in
     let p = primitive_entered (of_constructed g.S.Source.stream c.args.self.now)
@@ -71,12 +71,12 @@ returns-in-Ok-clause-moves g c =
     (g.S.Source.stream c.skip_owed.new.self.source) (limit_in c.next_header.new.self) c.skip_owed.new.self.limit
     (record { enters = p; octets = w.octets; fits = w.fits }) refl refl refl refl refl refl refl refl refl (F-step g) c.args.op.now c.op.new.self _
     (octets_passed {X = g.row.S-Error.Denot} _ _ (header_of (octets_header c.in-Ok-Some.header.tag c.in-Primitive.len)) _ _ _ refl _ _ _ c.in-Primitive.len
-    refl c.in_default-op.ensures c.skip_owed.ensures.kept c.skip_owed.ensures.no_fewer p.fits c.in-Ok.ensures.enough c.in-Ok.ensures.rest
-    c.in-Ok.ensures.limit c.in-Ok.ensures.no_fault) refl
+    refl c.in_default-op.ensures c.skip_owed.ensures.kept c.skip_owed.ensures.no_fewer p.fits c.in_default-skip_owed.ensures.enough
+    c.in_default-skip_owed.ensures.rest c.in_default-skip_owed.ensures.limit c.in_default-skip_owed.ensures.no_fault) refl
 
-pub returns-in-Ok-clause-skipped : goal.returns-in-Ok-clause-skipped
+pub returns-in-Primitive-clause-skipped : goal.returns-in-Primitive-clause-skipped
 unfolding of_constructed
-returns-in-Ok-clause-skipped g c =
+returns-in-Primitive-clause-skipped g c =
     let e = rw c.in-Ok-Some.field-0-is at c.in-Ok-Some.ensures.entered in
     let w = within_constructed g.S.Source.stream g.met.S.Source.sound c.args.self.now in
     let p = primitive_entered (of_constructed g.S.Source.stream c.args.self.now)
@@ -86,8 +86,8 @@ returns-in-Ok-clause-skipped g c =
     (g.S.Source.stream c.skip_owed.new.self.source) (limit_in c.next_header.new.self) c.skip_owed.new.self.limit
     (record { enters = p; octets = w.octets; fits = w.fits }) refl refl refl refl refl refl refl refl refl _ c.args.op.now c.op.new.self cause_of _ _
     (octets_passed {X = g.row.S-Error.Denot} _ _ (header_of (octets_header c.in-Ok-Some.header.tag c.in-Primitive.len)) _ _ _ refl _ _ _ c.in-Primitive.len
-    refl c.in_default-op.ensures c.skip_owed.ensures.kept c.skip_owed.ensures.no_fewer p.fits c.in-Ok.ensures.enough c.in-Ok.ensures.rest
-    c.in-Ok.ensures.limit c.in-Ok.ensures.no_fault) refl
+    refl c.in_default-op.ensures c.skip_owed.ensures.kept c.skip_owed.ensures.no_fewer p.fits c.in_default-skip_owed.ensures.enough
+    c.in_default-skip_owed.ensures.rest c.in_default-skip_owed.ensures.limit c.in_default-skip_owed.ensures.no_fault) refl
 
 pub returns-in-Err-skip_owed-clause-moves : goal.returns-in-Err-skip_owed-clause-moves
 unfolding of_constructed
@@ -123,51 +123,51 @@ returns-in-Err-skip_owed-clause-skipped g c =
     c.in_default-op.ensures c.skip_owed.ensures.kept c.skip_owed.ensures.no_fewer _ c.in-Err-skip_owed.ensures.cause c.in-Err-skip_owed.ensures.err
     c.in-Err-skip_owed.ensures.err_limit)
 
-pub returns-in-Ok-skip_content-clause-moves : goal.returns-in-Ok-skip_content-clause-moves
+pub returns-in-Ok-clause-moves : goal.returns-in-Ok-clause-moves
 unfolding of_constructed
-returns-in-Ok-skip_content-clause-moves g c =
+returns-in-Ok-clause-moves g c =
     let e = rw c.in-Ok-Some.field-0-is at c.in-Ok-Some.ensures.entered in
     let w = within_constructed g.S.Source.stream g.met.S.Source.sound c.args.self.now in
     behind_moved (of_constructed g.S.Source.stream c.args.self.now) (of_constructed g.S.Source.stream c.next_header.new.self) _ (header_of c.in-Ok-Some.header)
-    c.next_header.new.self.mode (source_of g.S.Source.stream c.next_header.new.self) (g.S.Source.stream c.skip_content.new.source.source)
-    (limit_in c.next_header.new.self) c.skip_content.new.source.limit (record { enters = e.1; octets = w.octets; fits = w.fits }) refl refl refl refl refl
-    refl refl refl refl _ c.args.op.now c.skip_content.new.op _ c.in-Ok-skip_content.ensures refl
+    c.next_header.new.self.mode (source_of g.S.Source.stream c.next_header.new.self) (g.S.Source.stream c.skip_content_on.new.source.source)
+    (limit_in c.next_header.new.self) c.skip_content_on.new.source.limit (record { enters = e.1; octets = w.octets; fits = w.fits }) refl refl refl refl refl
+    refl refl refl refl _ c.args.op.now c.skip_content_on.new.op _ c.in-Ok.ensures refl
 
-pub returns-in-Ok-skip_content-clause-skipped : goal.returns-in-Ok-skip_content-clause-skipped
+pub returns-in-Ok-clause-skipped : goal.returns-in-Ok-clause-skipped
 unfolding of_constructed
-returns-in-Ok-skip_content-clause-skipped g c =
+returns-in-Ok-clause-skipped g c =
     let e = rw c.in-Ok-Some.field-0-is at c.in-Ok-Some.ensures.entered in
     let w = within_constructed g.S.Source.stream g.met.S.Source.sound c.args.self.now in
     behind_passed (of_constructed g.S.Source.stream c.args.self.now) (of_constructed g.S.Source.stream c.next_header.new.self) _ (header_of c.in-Ok-Some.header)
-    c.next_header.new.self.mode (source_of g.S.Source.stream c.next_header.new.self) (g.S.Source.stream c.skip_content.new.source.source)
-    (limit_in c.next_header.new.self) c.skip_content.new.source.limit (record { enters = e.1; octets = w.octets; fits = w.fits }) refl refl refl refl refl
-    refl refl refl refl _ c.args.op.now c.skip_content.new.op cause_of _ _ c.in-Ok-skip_content.ensures refl
+    c.next_header.new.self.mode (source_of g.S.Source.stream c.next_header.new.self) (g.S.Source.stream c.skip_content_on.new.source.source)
+    (limit_in c.next_header.new.self) c.skip_content_on.new.source.limit (record { enters = e.1; octets = w.octets; fits = w.fits }) refl refl refl refl refl
+    refl refl refl refl _ c.args.op.now c.skip_content_on.new.op cause_of _ _ c.in-Ok.ensures refl
 
-pub returns-in-Err-skip_content-clause-moves : goal.returns-in-Err-skip_content-clause-moves
+pub returns-in-Err-skip_content_on-clause-moves : goal.returns-in-Err-skip_content_on-clause-moves
 unfolding of_constructed
-returns-in-Err-skip_content-clause-moves g c =
+returns-in-Err-skip_content_on-clause-moves g c =
     let e = rw c.in-Ok-Some.field-0-is at c.in-Ok-Some.ensures.entered in
     let w = within_constructed g.S.Source.stream g.met.S.Source.sound c.args.self.now in
     behind_stopped (of_constructed g.S.Source.stream c.args.self.now) (of_constructed g.S.Source.stream c.next_header.new.self) _
     (header_of c.in-Ok-Some.header) c.next_header.new.self.mode (source_of g.S.Source.stream c.next_header.new.self)
-    (g.S.Source.stream c.skip_content.new.source.source) (limit_in c.next_header.new.self) c.skip_content.new.source.limit
-    (record { enters = e.1; octets = w.octets; fits = w.fits }) refl refl refl refl refl refl refl refl refl _ c.args.op.now c.skip_content.new.op cause_of
-    c.in-Err-skip_content.interrupt c.interrupt_error-in-Err-skip_content.result refl c.interrupt_error-in-Err-skip_content.ensures.content
-    c.interrupt_error-in-Err-skip_content.ensures.source c.interrupt_error-in-Err-skip_content.ensures.memory
-    c.interrupt_error-in-Err-skip_content.ensures.closure c.in-Err-skip_content.ensures
+    (g.S.Source.stream c.skip_content_on.new.source.source) (limit_in c.next_header.new.self) c.skip_content_on.new.source.limit
+    (record { enters = e.1; octets = w.octets; fits = w.fits }) refl refl refl refl refl refl refl refl refl _ c.args.op.now c.skip_content_on.new.op cause_of
+    c.in-Err-skip_content_on.interrupt c.interrupt_error-in-Err-skip_content_on.result refl c.interrupt_error-in-Err-skip_content_on.ensures.content
+    c.interrupt_error-in-Err-skip_content_on.ensures.source c.interrupt_error-in-Err-skip_content_on.ensures.memory
+    c.interrupt_error-in-Err-skip_content_on.ensures.closure c.in-Err-skip_content_on.ensures
 
-pub returns-in-Err-skip_content-clause-skipped : goal.returns-in-Err-skip_content-clause-skipped
+pub returns-in-Err-skip_content_on-clause-skipped : goal.returns-in-Err-skip_content_on-clause-skipped
 unfolding of_constructed
-returns-in-Err-skip_content-clause-skipped g c =
+returns-in-Err-skip_content_on-clause-skipped g c =
     let e = rw c.in-Ok-Some.field-0-is at c.in-Ok-Some.ensures.entered in
     let w = within_constructed g.S.Source.stream g.met.S.Source.sound c.args.self.now in
     behind_refused (of_constructed g.S.Source.stream c.args.self.now) (of_constructed g.S.Source.stream c.next_header.new.self) _
     (header_of c.in-Ok-Some.header) c.next_header.new.self.mode (source_of g.S.Source.stream c.next_header.new.self)
-    (g.S.Source.stream c.skip_content.new.source.source) (limit_in c.next_header.new.self) c.skip_content.new.source.limit
-    (record { enters = e.1; octets = w.octets; fits = w.fits }) refl refl refl refl refl refl refl refl refl _ c.args.op.now c.skip_content.new.op cause_of
-    c.in-Err-skip_content.interrupt c.interrupt_error-in-Err-skip_content.result refl c.interrupt_error-in-Err-skip_content.ensures.content
-    c.interrupt_error-in-Err-skip_content.ensures.source c.interrupt_error-in-Err-skip_content.ensures.memory
-    c.interrupt_error-in-Err-skip_content.ensures.closure c.in-Err-skip_content.ensures
+    (g.S.Source.stream c.skip_content_on.new.source.source) (limit_in c.next_header.new.self) c.skip_content_on.new.source.limit
+    (record { enters = e.1; octets = w.octets; fits = w.fits }) refl refl refl refl refl refl refl refl refl _ c.args.op.now c.skip_content_on.new.op cause_of
+    c.in-Err-skip_content_on.interrupt c.interrupt_error-in-Err-skip_content_on.result refl c.interrupt_error-in-Err-skip_content_on.ensures.content
+    c.interrupt_error-in-Err-skip_content_on.ensures.source c.interrupt_error-in-Err-skip_content_on.ensures.memory
+    c.interrupt_error-in-Err-skip_content_on.ensures.closure c.in-Err-skip_content_on.ensures
 
 pub returns-in-Ok-None-clause-moves : goal.returns-in-Ok-None-clause-moves
 returns-in-Ok-None-clause-moves g c =
