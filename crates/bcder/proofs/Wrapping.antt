@@ -1,12 +1,10 @@
 -- Encodings inside an octet string.
-use Rattle.std.proofs.Common.{◌≡◌, ℕ, true, List, length, Result, Ok, Err, ◌⊎◌, inl, inr, refl, sym, ap, ◌∙◌, subst, IsErr, IsErrAnd}
-use Rattle.bcder.specs.x690.OctetString.{octet_string_tag}
-use Rattle.bcder.specs.steps.Segmenting.{InsideSize}
+use Rattle.std.proofs.Common.{◌≡◌, ℕ, true, List, length, Result, Ok, Err, ◌⊎◌, inl, inr, refl, sym, ap, ◌∙◌, subst}
 use Rattle.bcder.specs.declared.encode.error.EncodeError.{EncodeError}
 use Rattle.bcder.specs.declared.mode.Mode.{Mode}
 use Rattle.bcder.specs.x690.Identifier.{AreOctets, Tag}
 use Rattle.bcder.specs.calls.Meaning.{Encoded, Meaning, IsOne, IsLawful, encoded_octets}
-use Rattle.bcder.specs.calls.Encoders.{HasEncoding, MeansOctets, RefusesBy, SizeOfValues}
+use Rattle.bcder.specs.calls.Encoders.{HasEncoding, MeansOctets, SizeOfValues}
 use Rattle.bcder.specs.calls.StringMeaning.{string_meaning, contents_of, OctetsMean, WrappedMeans, is_cut, IsGathered}
 use Rattle.bcder.specs.laws.Octets.{AreOctets-encodings}
 
@@ -52,9 +50,3 @@ pub or_gathered : {L : Type 0} (mode : Mode) (M : Meaning → Type 0) (n : ℕ) 
     → L ⊎ HasEncoding M → L ⊎ IsGathered mode M
 or_gathered mode M n is sized (inl l) = inl l
 or_gathered mode M n is sized (inr (e, m)) = inr (e, m, ap (is_cut mode) (sym (sized e m)) ∙ is)
-
--- an error that `?` passes on
-pub inside_halts : (mode : Mode) (M : Meaning → Type 0) (lacks : Type 0) {e : EncodeError} (r : Result ℕ EncodeError) → IsErr r × IsErrAnd r (λ d. d ≡ e)
-    → RefusesBy (WrappedMeans octet_string_tag mode M) lacks e → InsideSize mode M lacks r
-inside_halts mode M lacks (Ok n) is h = absurd is.1
-inside_halts mode M lacks (Err d) is h = subst (RefusesBy (WrappedMeans octet_string_tag mode M) lacks) (sym is.1) h

@@ -15,8 +15,8 @@ use Rattle.bcder.specs.x690.Identifier.{Tag, IsValueTag, end_of_contents}
 use Rattle.bcder.specs.x690.Octets.{definite_length, definite, enclosed_size}
 use Rattle.bcder.specs.x690.OctetString.{octet_string_tag}
 use Rattle.bcder.specs.calls.Meaning.{Encoded, Meaning, fits_enclosed}
-use Rattle.bcder.specs.calls.Encoders.{HasEncoding, RefusesBy, WroteOf}
-use Rattle.bcder.specs.calls.StringMeaning.{full_segments, segments_in_cer, WrappedMeans}
+use Rattle.bcder.specs.calls.Encoders.{WroteOf}
+use Rattle.bcder.specs.calls.StringMeaning.{full_segments, segments_in_cer}
 
 -- ---- sizes
 
@@ -30,11 +30,6 @@ CutSize t n (Ok size) = IsValueTag t × (size ≡ enclosed_size Cer t (segments_
 CutSize t n (Err e) =
     ((t ≡ end_of_contents) × (e ≡ EndOfValueTag))
     ⊎ (IsValueTag t × (fits_enclosed Cer t (segments_size n) ≡ false) × (e ≡ SizeOverflow))
-
--- r is the number of octets inside a string of what M says, if that has an encoding, or says why it has none
-abbrev pub InsideSize : Mode → (Meaning → Type 0) → Type 0 → Result ℕ EncodeError → Type 0
-InsideSize mode M lacks (Ok n) = (e : Encoded) × M (Ok e) × (n ≡ length e.octets) × HasEncoding (WrappedMeans octet_string_tag mode M)
-InsideSize mode M lacks (Err e) = RefusesBy (WrappedMeans octet_string_tag mode M) lacks e
 
 -- ---- octets
 

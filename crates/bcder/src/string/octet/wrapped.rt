@@ -1,10 +1,10 @@
 //! Encodings inside an octet string (X.690, 8.7, 9.2, 10.2).
-ghost use Rattle.std.specs.Prelude.{◌≡◌, ◌<◌, ◌^◌, ◌⊎◌, Some, IfOk, IfErr};
+ghost use Rattle.std.specs.Prelude.{◌≡◌, ◌<◌, ◌^◌, ◌⊎◌, IfOk};
 ghost use Rattle.bcder.specs.x690.OctetString.{octet_string_tag};
 ghost use Rattle.bcder.specs.calls.Encoders.{HasEncoding, SizeOfValues, WritesParts};
-ghost use Rattle.bcder.specs.calls.Encoders.{WritesValues, into_result};
-ghost use Rattle.bcder.specs.calls.Noted.{HasSize, ReadsInside, Notes, MayRead, HasRead};
-ghost use Rattle.bcder.specs.steps.Segmenting.{InsideSize, WritesInside};
+ghost use Rattle.bcder.specs.calls.Encoders.{into_result};
+ghost use Rattle.bcder.specs.calls.Noted.{HasSize, ReadsInside, MayRead, HasRead};
+ghost use Rattle.bcder.specs.steps.Segmenting.{WritesInside};
 ghost use Rattle.bcder.specs.calls.StringMeaning.{WrappedMeans, IsGathered};
 ghost use Rattle.bcder.specs.laws.StringMeanings.{WrappedMeans_lawful};
 
@@ -13,9 +13,9 @@ use super::write::{is_cut, put_octets, string_len};
 use crate::encode::buffer::Buffer;
 use crate::encode::header::put_header;
 use crate::encode::sizes::{Sizes, SizesLeft};
-use crate::encode::slot::{Failed, into_result, slot, store_refusal};
+use crate::encode::slot::{Failed, store_refusal};
 use crate::encode::target::put_all;
-use crate::encode::values::note_inside;
+use crate::encode::values::{Encoder, note_inside};
 use crate::encode::{EncodeError, Values, WriteError};
 use crate::length::Length;
 use crate::mode::Mode;
@@ -53,33 +53,6 @@ impl OctetString {
             alloc,
         }
     }
-}
-
-/// Returns the number of octets of the string's encoding, or its refusal.
-fn wrapped_len<V: Values>(values: &V, inner: Mode, mode: Mode) -> Result<usize, EncodeError>
-    requires { V.can_encode values.now }
-    ensures { SizeOfValues (WrappedMeans octet_string_tag mode (V.means values.now inner))
-        (V.may_lack values.now inner) result }
-{
-    let len = values.encoded_len(inner)?;
-    string_len(Tag::OCTET_STRING, mode, len)
-}
-
-/// Returns the number of octets inside the string, or its refusal. Notes the sizes inside.
-fn inside_len<V: Values>(
-    values: &V,
-    inner: Mode,
-    mode: Mode,
-    sizes: &mut Sizes,
-) -> Result<usize, EncodeError>
-    requires { V.can_encode values.now }
-    ensures sized { InsideSize mode (V.means values.now inner)
-        (V.may_lack values.now inner) result }
-    ensures noted { IfOk result (λ _. Notes (V.reads values.now inner) sizes.old sizes.new) }
-{
-    let len = values.note_sizes(inner, sizes)?;
-    string_len(Tag::OCTET_STRING, mode, len)?;
-    Ok(len)
 }
 
 /// Writes a primitive value with the encoding inside, which has `len` octets. Up to 64 octets are
@@ -198,21 +171,10 @@ fn put_measured<V: Values, W: io::Write>(
     }
 }
 
-impl<V: Values> Values for WrappingOctetStringEncoder<V> {
-    ghost means = { λ x mode.
-        WrappedMeans octet_string_tag mode (V.means x.values x.mode) };
-
-    ghost may_lack = { λ x mode.
-        V.may_lack x.values x.mode ⊎ IsGathered mode (V.means x.values x.mode) };
-
-    ghost reads = { λ x mode.
-        ReadsInside (V.means x.values x.mode) (V.reads x.values x.mode) };
-
-    ghost can_encode = { λ x. V.can_encode x.values };
-
+impl<V: Values> WrappingOctetStringEncoder<V> {
     /// Returns the number of octets, like any encoder. Nothing is gathered, so memory runs out only
     /// if it may for the values.
-    fn encoded_len(&self, mode: Mode) -> Result<usize, EncodeError>
+    pub fn encoded_len(&self, mode: Mode) -> Result<usize, EncodeError>
         requires { V.can_encode self.now.values }
         ensures sized { SizeOfValues
             (WrappedMeans octet_string_tag mode (V.means self.now.values self.now.mode))
@@ -222,23 +184,28 @@ impl<V: Values> Values for WrappingOctetStringEncoder<V> {
             (WrappedMeans octet_string_tag mode (V.means self.now.values self.now.mode))
             (V.may_lack self.now.values self.now.mode) result }
     {
-        wrapped_len(&self.values, self.mode, mode)
+        let len = self.values.encoded_len(self.mode)?;
+        string_len(Tag::OCTET_STRING, mode, len)
     }
+}
 
-    fn note_sizes(&self, mode: Mode, sizes: &mut Sizes) -> Result<usize, EncodeError> {
+impl<V: Values> Encoder for WrappingOctetStringEncoder<V> {
+    ghost all = { λ x mode. WrappedMeans octet_string_tag mode (V.means x.values x.mode) };
+
+    ghost lacks = { λ x mode.
+        V.may_lack x.values x.mode ⊎ IsGathered mode (V.means x.values x.mode) };
+
+    ghost takes = { λ x mode.
+        ReadsInside (V.means x.values x.mode) (V.reads x.values x.mode) };
+
+    ghost can = { λ x. V.can_encode x.values };
+
+    fn measured(&self, mode: Mode, sizes: &mut Sizes) -> Result<usize, EncodeError> {
         let len = note_inside(&self.values, self.mode, sizes)?;
         string_len(Tag::OCTET_STRING, mode, len)
     }
 
-    fn write_encoded<W: io::Write>(&self, mode: Mode, target: &mut W) -> Result<(), WriteError> {
-        let mut sizes = Sizes::new();
-        let len = inside_len(&self.values, self.mode, mode, &mut sizes)?;
-        let mut why = slot();
-        let outcome = put_wrapped(self, len, mode, &mut sizes.left(), target, &mut why);
-        into_result(outcome, why)
-    }
-
-    fn write_known<W: io::Write>(
+    fn put<W: io::Write>(
         &self,
         mode: Mode,
         sizes: &mut SizesLeft<'_>,
@@ -251,6 +218,6 @@ impl<V: Values> Values for WrappingOctetStringEncoder<V> {
         }
     }
 
-    ghost lawful = { λ x mode can.
+    ghost one = { λ x mode can.
         WrappedMeans_lawful octet_string_tag mode x.mode (V.lawful x.values x.mode can) };
 }

@@ -1,6 +1,6 @@
 use Rattle.bcder.specs.x690.OctetString.{octet_string_tag}
 use Rattle.bcder.proofs.Wrapping.{lawful_octets, wrapped_size}
-use Rattle.bcder.proofs.string.octet.wrapped.WrappingOctetStringEncoderValues.note_sizes.Goals as goal
+use Rattle.bcder.proofs.string.octet.wrapped.WrappingOctetStringEncoderEncoder.measured.Goals as goal
 
 pub returns-clause-sized : goal.returns-clause-sized
 returns-clause-sized g c =

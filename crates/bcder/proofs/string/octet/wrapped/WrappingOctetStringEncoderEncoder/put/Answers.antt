@@ -1,5 +1,5 @@
 use Rattle.bcder.proofs.Noting.{where_ok, inside_may, inside_read}
-use Rattle.bcder.proofs.string.octet.wrapped.WrappingOctetStringEncoderValues.write_known.Goals as goal
+use Rattle.bcder.proofs.string.octet.wrapped.WrappingOctetStringEncoderEncoder.put.Goals as goal
 
 pub put_wrapped-requires : goal.put_wrapped-requires
 put_wrapped-requires g c =
