@@ -8,7 +8,6 @@ use Rattle.bcder.specs.declared.encode.error.EncodeError.{EncodeError}
 use Rattle.bcder.specs.declared.encode.error.EncodeError.TheVariants.{EndOfValueTag, SizeOverflow}
 use Rattle.bcder.specs.declared.encode.error.WriteError.{WriteError}
 use Rattle.bcder.specs.declared.encode.slot.Failed.{Failed}
-use Rattle.bcder.specs.declared.mode.Mode.{Mode}
 use Rattle.bcder.specs.declared.mode.Mode.TheVariants.{Cer}
 use Rattle.bcder.specs.declared.string.octet.write.Progress.{Progress}
 use Rattle.bcder.specs.x690.Identifier.{Tag, IsValueTag, end_of_contents}
