@@ -1,10 +1,10 @@
 //! Content: the values inside a value or at top level, and the octets inside a primitive value.
-ghost use Rattle.std.specs.Prelude.{◌≡◌, ◌≢◌, ℕ, ◌↔◌, true, IsTrue, Some};
+ghost use Rattle.std.specs.Prelude.{◌≡◌, ◌≢◌, ℕ, ◌↔◌, true, false, IsTrue, Some};
 ghost use Rattle.bcder.specs.calls.Cause.{cause_of, position_of, of_content as of_refusal};
 ghost use Rattle.bcder.specs.calls.Content.{Octets};
 ghost use Rattle.bcder.specs.calls.Views.{of_constructed, of_primitive, of_content, content_start};
 ghost use Rattle.bcder.specs.calls.Views.{before, after, octets_before, octets_after, Moved};
-ghost use Rattle.bcder.specs.calls.Views.{MovedOctets};
+ghost use Rattle.bcder.specs.calls.Views.{MovedOctets, limited_stream};
 
 mod alone;
 mod capture;
@@ -88,6 +88,33 @@ pub enum Content<'a, S> {
 
 #[tactic(auto, using(crate::proofs::moves), unfolding(crate::specs::calls::Views::of_constructed))]
 impl<'a, S: Source> Constructed<'a, S> {
+    /// Creates unmarked content that begins at the current position of a source.
+    #[inline(always)]
+    fn over(
+        source: &'a mut LimitedSource<S>,
+        kind: Kind,
+        state: State,
+        mode: Mode,
+    ) -> Constructed<'a, S>
+        ensures same_reference { result.source.ghost_name ≡ source.entry.ghost_name }
+        ensures source { result.source.now ≡ source.old }
+        ensures kind { result.kind ≡ kind }
+        ensures state { result.state ≡ state }
+        ensures mode { result.mode ≡ mode }
+        ensures marked { result.marked ≡ false }
+        ensures start { result.start ≡ (limited_stream S.stream source.old).position }
+    {
+        let start = source.pos();
+        Constructed {
+            source,
+            kind,
+            state,
+            mode,
+            marked: false,
+            start,
+        }
+    }
+
     /// Returns the encoding rules that the content is read by.
     pub fn mode(&self) -> Mode
         ensures { result ≡ (of_constructed S.stream self.now).mode }
@@ -158,6 +185,24 @@ impl<'a, S: Source> Constructed<'a, S> {
 
 #[tactic(auto, using(crate::proofs::moves), unfolding(crate::specs::calls::Views::of_primitive))]
 impl<'a, S: Source> Primitive<'a, S> {
+    /// Creates unmarked content that begins at the current position of a source.
+    #[inline(always)]
+    fn over(source: &'a mut LimitedSource<S>, mode: Mode) -> Primitive<'a, S>
+        ensures same_reference { result.source.ghost_name ≡ source.entry.ghost_name }
+        ensures source { result.source.now ≡ source.old }
+        ensures mode { result.mode ≡ mode }
+        ensures marked { result.marked ≡ false }
+        ensures start { result.start ≡ (limited_stream S.stream source.old).position }
+    {
+        let start = source.pos();
+        Primitive {
+            source,
+            mode,
+            marked: false,
+            start,
+        }
+    }
+
     /// Returns the encoding rules that the content is read by.
     pub fn mode(&self) -> Mode
         ensures { result ≡ (of_primitive S.stream self.now).mode }

@@ -48,13 +48,7 @@ where
     ensures { RanAlone (of_primitive S.stream) (F.post op)
         (S.stream source.old.source) len mode result }
 {
-    let start = source.pos();
-    let mut octets = Primitive {
-        source: &mut *source,
-        mode,
-        marked: false,
-        start,
-    };
+    let mut octets = Primitive::over(&mut *source, mode);
     let value = match op(&mut octets) {
         Ok(value) => value,
         Err(error) => return Err(error),

@@ -65,15 +65,7 @@ where
         (limited_stream S.stream source.old) source.old.limit mode result
         (limited_stream S.stream source.new) source.new.limit }
 {
-    let start = source.pos();
-    let mut cons = Constructed {
-        source: &mut *source,
-        kind: Kind::Unbounded,
-        state: State::Open,
-        mode,
-        marked: false,
-        start,
-    };
+    let mut cons = Constructed::over(&mut *source, Kind::Unbounded, State::Open, mode);
     run(&mut cons, op)
 }
 

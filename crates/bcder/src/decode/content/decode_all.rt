@@ -116,15 +116,7 @@ impl<'a, S: Source> Primitive<'a, S> {
             ≡ (octets_before S.stream self).marked }
     {
         let source = &mut *self.source;
-        let start = source.pos();
-        let mut cons = Constructed {
-            source: &mut *source,
-            kind: Kind::Definite,
-            state: State::Open,
-            mode,
-            marked: false,
-            start,
-        };
+        let mut cons = Constructed::over(&mut *source, Kind::Definite, State::Open, mode);
         run_to_end(&mut cons, op)
     }
 }

@@ -259,13 +259,7 @@ impl<'a, S: Source> Constructed<'a, S> {
         let source = &mut *self.source;
         let outer = source.limit();
         source.set_limit(Some(len));
-        let start = source.pos();
-        let mut octets = Primitive {
-            source: &mut *source,
-            mode,
-            marked: false,
-            start,
-        };
+        let mut octets = Primitive::over(&mut *source, mode);
         let value = match run(&mut octets, op) {
             Ok(value) => value,
             Err(error) => {
@@ -307,15 +301,7 @@ impl<'a, S: Source> Constructed<'a, S> {
         let source = &mut *self.source;
         let outer = source.limit();
         let kind = go_inside(source, len);
-        let start = source.pos();
-        let mut values = Constructed {
-            source: &mut *source,
-            kind,
-            state: State::Open,
-            mode,
-            marked: false,
-            start,
-        };
+        let mut values = Constructed::over(&mut *source, kind, State::Open, mode);
         let value = match run(&mut values, op) {
             Ok(value) => value,
             Err(error) => {
@@ -356,14 +342,8 @@ impl<'a, S: Source> Constructed<'a, S> {
             Form::Primitive(len) => {
                 let outer = source.limit();
                 source.set_limit(Some(len));
-                let start = source.pos();
-                let content = Content::Primitive(Primitive {
-                    source: &mut *source,
-                    mode,
-                    marked: false,
-                    start,
-                });
-                let (result, marked, _back) = run_over(content, op);
+                let octets = Primitive::over(&mut *source, mode);
+                let (result, marked, _back) = run_over(Content::Primitive(octets), op);
                 pop(source, outer, len);
                 self.marked |= marked;
                 match result {
@@ -377,16 +357,8 @@ impl<'a, S: Source> Constructed<'a, S> {
             Form::Constructed(len) => {
                 let outer = source.limit();
                 let kind = go_inside(source, len);
-                let start = source.pos();
-                let content = Content::Constructed(Constructed {
-                    source: &mut *source,
-                    kind,
-                    state: State::Open,
-                    mode,
-                    marked: false,
-                    start,
-                });
-                let (result, marked, _back) = run_over(content, op);
+                let values = Constructed::over(&mut *source, kind, State::Open, mode);
+                let (result, marked, _back) = run_over(Content::Constructed(values), op);
                 go_outside(source, outer, len);
                 self.marked |= marked;
                 match result {

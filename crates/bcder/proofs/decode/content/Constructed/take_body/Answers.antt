@@ -18,7 +18,8 @@ returns-in-Err g c =
     (header_of c.args.header) _ refl refl refl refl _ refl
     g.S.Source.stream c.in-Primitive.len c.args.self.now.source.now c.set_limit.new.self back c.pop.new.source c.limit-outer.result
     (ap len_of c.in-Primitive.is) refl refl c.limit-outer.ensures c.set_limit.ensures.limit c.set_limit.ensures.source limit source refl refl c.requires.fits
-    (ap is_constructed c.in-Primitive.is) (g.met.S.Source.sound c.args.self.now.source.now.source) (rw c.in-Err.is at c.run_over-result.ensures.ran _))
+    (ap is_constructed c.in-Primitive.is) (g.met.S.Source.sound c.args.self.now.source.now.source)
+    (rw (c.over-octets.ensures.source, c.over-octets.ensures.mode, c.in-Err.is) at c.run_over-result.ensures.ran _))
 
 pub returns-in-Ok : goal.returns-in-Ok
 unfolding of_constructed of_primitive
@@ -40,7 +41,8 @@ returns-in-Ok g c =
     (header_of c.args.header) _ refl refl refl refl _ refl
     g.S.Source.stream c.in-Primitive.len c.args.self.now.source.now c.set_limit.new.self back c.pop.new.source c.limit-outer.result
     (ap len_of c.in-Primitive.is) refl refl c.limit-outer.ensures c.set_limit.ensures.limit c.set_limit.ensures.source limit source refl refl c.requires.fits
-    (ap is_constructed c.in-Primitive.is) (g.met.S.Source.sound c.args.self.now.source.now.source) (rw c.in-Ok.is at c.run_over-result.ensures.ran _)) refl
+    (ap is_constructed c.in-Primitive.is) (g.met.S.Source.sound c.args.self.now.source.now.source)
+    (rw (c.over-octets.ensures.source, c.over-octets.ensures.mode, c.in-Ok.is) at c.run_over-result.ensures.ran _)) refl
 
 pub returns-in-Err-result : goal.returns-in-Err-result
 unfolding of_constructed of_primitive
@@ -54,7 +56,8 @@ returns-in-Err-result g c =
     c.limit-outer-in-Constructed.result
     (ap len_of c.in-Constructed.is) refl refl c.limit-outer-in-Constructed.ensures c.go_inside-kind.ensures.limit c.go_inside-kind.ensures.source limit source
     refl refl c.requires.fits (ap is_constructed c.in-Constructed.is)
-    (rw (c.go_inside-kind.ensures.kind, c.in-Err-result.is) at c.run_over-result-in-Constructed.ensures.ran _))
+    (rw (c.over-values.ensures.source, c.over-values.ensures.kind, c.over-values.ensures.mode, c.go_inside-kind.ensures.kind, c.in-Err-result.is) at
+    c.run_over-result-in-Constructed.ensures.ran _))
 
 pub returns-in-Ok-result : goal.returns-in-Ok-result
 unfolding of_constructed of_primitive
@@ -78,4 +81,5 @@ returns-in-Ok-result g c =
     c.limit-outer-in-Constructed.result
     (ap len_of c.in-Constructed.is) refl refl c.limit-outer-in-Constructed.ensures c.go_inside-kind.ensures.limit c.go_inside-kind.ensures.source limit source
     refl refl c.requires.fits (ap is_constructed c.in-Constructed.is)
-    (rw (c.go_inside-kind.ensures.kind, c.in-Ok-result.is) at c.run_over-result-in-Constructed.ensures.ran _)) refl
+    (rw (c.over-values.ensures.source, c.over-values.ensures.kind, c.over-values.ensures.mode, c.go_inside-kind.ensures.kind, c.in-Ok-result.is) at
+    c.run_over-result-in-Constructed.ensures.ran _)) refl

@@ -1,4 +1,4 @@
-use Rattle.std.proofs.Common.{◌≡◌, false, refl, ap, sym, subst, rules, ◌||◌}
+use Rattle.std.proofs.Common.{◌≡◌, ◌∙◌, false, refl, ap, sym, subst, rules, ◌||◌}
 use Rattle.std.specs.Prelude.{Some}
 use Rattle.bcder.specs.calls.Cause.{cause_of}
 use Rattle.bcder.specs.calls.Content.{Reading, values, FitsOwed}
@@ -27,12 +27,12 @@ returns-in-Err g c =
       handed = _;
       left = of_constructed g.S.Source.stream c.run.new.inside;
       runs = record {
-        stream = refl;
-        owed = refl;
-        kind = ap values c.go_inside-kind.ensures.kind;
-        state = refl;
-        mode = refl;
-        marked = refl;
+        stream = ap (limited_stream g.S.Source.stream) c.over-values.ensures.source;
+        owed = ap (λ s. s.limit) c.over-values.ensures.source;
+        kind = ap values (c.over-values.ensures.kind ∙ c.go_inside-kind.ensures.kind);
+        state = c.over-values.ensures.state;
+        mode = c.over-values.ensures.mode;
+        marked = c.over-values.ensures.marked;
         left_stream = refl;
         left_owed = refl;
         moves = c.run.ensures.moves;
@@ -45,7 +45,8 @@ returns-in-Err g c =
 pub close-requires-clause-taken : goal.close-requires-clause-taken
 unfolding of_constructed
 close-requires-clause-taken g c = (let h : IsTaken c.in-Constructed.len c.run.new.inside.source.now.limit = all_taken c.in-Constructed.len _ _
-    c.run.ensures.moves refl (ap values c.go_inside-kind.ensures.kind) (c.in-Ok.ensures.ok c.args.header.tag).done in search rules)
+    c.run.ensures.moves c.over-values.ensures.state
+    (ap values (c.over-values.ensures.kind ∙ c.go_inside-kind.ensures.kind)) (c.in-Ok.ensures.ok c.args.header.tag).done in search rules)
 
 pub close-requires-clause-fits : goal.close-requires-clause-fits
 close-requires-clause-fits g c = subst (λ z. FitsOwed z c.limit-outer.result) (ap len_of c.in-Constructed.is)
@@ -75,12 +76,12 @@ returns g c =
       handed = _;
       left = of_constructed g.S.Source.stream c.run.new.inside;
       runs = record {
-        stream = refl;
-        owed = refl;
-        kind = ap values c.go_inside-kind.ensures.kind;
-        state = refl;
-        mode = refl;
-        marked = refl;
+        stream = ap (limited_stream g.S.Source.stream) c.over-values.ensures.source;
+        owed = ap (λ s. s.limit) c.over-values.ensures.source;
+        kind = ap values (c.over-values.ensures.kind ∙ c.go_inside-kind.ensures.kind);
+        state = c.over-values.ensures.state;
+        mode = c.over-values.ensures.mode;
+        marked = c.over-values.ensures.marked;
         left_stream = refl;
         left_owed = refl;
         moves = c.run.ensures.moves;
