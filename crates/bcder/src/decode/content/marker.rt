@@ -5,7 +5,7 @@ ghost use Rattle.bcder.specs.x690.Encoding.{AreEncodings};
 ghost use Rattle.bcder.specs.x690.Tree.{Trees};
 
 use super::{Constructed, Kind, State};
-use crate::decode::source::{LimitedSource, SliceSource, Source};
+use crate::decode::source::{LimitedSource, SliceSource};
 use crate::mode::Mode;
 use crate::plain::{end_at, is_list};
 use bytes::Bytes;
@@ -19,15 +19,7 @@ fn are_values(mode: Mode, alloc: Global, octets: &[u8]) -> bool
     ensures { IsTrue result ↔ (ts : Trees) × AreEncodings mode ts octets.now }
 {
     let mut source = LimitedSource::new(SliceSource::new(octets));
-    let start = source.pos();
-    let mut cons = Constructed {
-        source: &mut source,
-        kind: Kind::Unbounded,
-        state: State::Open,
-        mode,
-        marked: false,
-        start,
-    };
+    let mut cons = Constructed::over(&mut source, Kind::Unbounded, State::Open, mode);
     match cons.skip_all(alloc) {
         Ok(()) => true,
         Err(error) => error.is_memory() && is_list(mode, octets),

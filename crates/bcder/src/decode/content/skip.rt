@@ -225,15 +225,7 @@ where
     ensures { RanOverSource S.stream F.step source mode outermost op result }
 {
     let outer = source.limit();
-    let start = source.pos();
-    let mut cons = Constructed {
-        source: &mut *source,
-        kind: Kind::Definite,
-        state: State::Failed,
-        mode,
-        marked: false,
-        start,
-    };
+    let mut cons = Constructed::over(&mut *source, Kind::Definite, State::Failed, mode);
     let mut frames = SmallVec::new(alloc);
     let mut opened = OpenValues {
         depth: 0,

@@ -22,20 +22,22 @@ pub returns-in-Err-go_into : goal.returns-in-Err-go_into
 returns-in-Err-go_into g c =
     left_here _ _ _ _ _ _ _ _ (source_of g.S.Source.stream c.go_into.new.cons) _ (limit_in c.go_into.new.cons) _ (search rules) (search rules)
     (first_stopped _ _ _ _ _ _ (around (reverse c.new-frames.result.items)) (entries c.go_into.new.opened) _ _ _ (ap (λ v. around (reverse v))
-    c.new-frames.ensures.items) (rw c.is_constructed.ensures at c.in_default.ensures) c.in-Err-go_into.stop c.in-Err-go_into.ensures.gone)
+    c.new-frames.ensures.items) (rw c.is_constructed.ensures at c.in_default.ensures) c.in-Err-go_into.stop
+    (rw c.over-cons.ensures.source at c.in-Err-go_into.ensures.gone))
 
 pub loop-opened-init : goal.loop-opened-init
 loop-opened-init g c =
     let w = first_went (F-step g) _ _ _ _ c.args.op.now (around (reverse c.new-frames.result.items)) (entries c.go_into.new.opened) c.op.new.self _ _
     (ap (λ v. around (reverse v)) c.new-frames.ensures.items)
-    (rw c.is_constructed.ensures at c.in_default.ensures) _ c.requires.fits c.in_default-go_into.ensures.gone in
+    (rw c.is_constructed.ensures at c.in_default.ensures) _ c.requires.fits (rw c.over-cons.ensures.source at c.in_default-go_into.ensures.gone) in
     record {
       callable = mut_next _ _ _ _ _ _ c.op.ensures refl c.requires.callable;
       counted = c.go_into.ensures.counted;
       went = (w.calls, w.called, w.under);
-      top = c.in_default-go_into.ensures.kind (subst (λ z. TopIs z Definite) (sym (ap (λ v. around (reverse v)) c.new-frames.ensures.items)) refl);
+      top = c.in_default-go_into.ensures.kind
+          (subst (λ z. TopIs z c.over-cons.result.kind) (sym (ap (λ v. around (reverse v)) c.new-frames.ensures.items)) refl);
       state = c.in_default-go_into.ensures.state;
-      mode = c.go_into.ensures.mode;
+      mode = c.go_into.ensures.mode ∙ c.over-cons.ensures.mode;
       name = refl;
       no_fault = w.no_fault;
       outer = c.limit-outer.ensures;
