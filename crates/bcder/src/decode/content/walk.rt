@@ -296,15 +296,7 @@ fn walk_over<S: Source>(
         ((limited_stream S.stream source.new).faults
         ≡ (limited_stream S.stream source.old).faults) }
 {
-    let start = source.pos();
-    let mut cons = Constructed {
-        source: &mut *source,
-        kind,
-        state: State::Open,
-        mode,
-        marked: false,
-        start,
-    };
+    let mut cons = Constructed::over(&mut *source, kind, State::Open, mode);
     while step(&mut cons)?.is_some() {}
     Ok(())
 }

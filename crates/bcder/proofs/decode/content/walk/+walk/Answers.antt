@@ -132,7 +132,8 @@ pub walk_over-step-requires : goal.walk_over-step-requires
 unfolding of_constructed
 walk_over-step-requires g t c κs within =
     let h : length (of_constructed g.S.Source.stream c.loop.cons).stream.rest ≤ length (limited_stream g.S.Source.stream c.args.source.now).rest =
-    moved_is_no_longer _ _ c.loop.invariant.walks.moves in
+    subst (λ z. length (of_constructed g.S.Source.stream c.loop.cons).stream.rest ≤ length (limited_stream g.S.Source.stream z).rest)
+    c.over-cons.ensures.source (moved_is_no_longer _ _ c.loop.invariant.walks.moves) in
     search rules
 
 pub walk_over-returns-in_err-step-clause-ran : goal.walk_over-returns-in_err-step-clause-ran
@@ -142,13 +143,15 @@ walk_over-returns-in_err-step-clause-ran g t c u =
     let k = of_constructed g.S.Source.stream c.step.new.cons in
     let name = moves_constructed_name g.S.Source.stream c.loop.cons c.step.new.cons c.step.ensures.moves in
     let r = walks_refused stop_cause _ _ j k
-    (λ e. (let x : values c.args.kind ≡ octets = e in cc)) c.loop.invariant.walks c.in_err-step.ensures.passed.refused in
+    (λ e. (let x : values c.args.kind ≡ octets = sym (ap values c.over-cons.ensures.kind) ∙ e in cc))
+    c.loop.invariant.walks c.in_err-step.ensures.passed.refused in
     let p = all_refused (RefusesValues stop_cause) _ k c.from_residual.result _ c.from_residual.ensures.1 r c.in_err-step.ensures.passed.failed
     (c.in_err-step.ensures.passed.mode ∙ c.loop.invariant.walks.mode) (c.in_err-step.ensures.passed.marked ∙ c.loop.invariant.walks.marked) in
     ran_values stop_cause _ k c.from_residual.result
     (moved_twice_is_moved _ j k c.loop.invariant.walks.moves c.in_err-step.ensures.moves) p.marked p.done p.refused
-    (limited_stream g.S.Source.stream c.args.source.now) _ c.args.source.now.limit _ (values c.args.kind) c.args.mode u refl refl refl refl refl refl
-    (search rules) (search rules)
+    (limited_stream g.S.Source.stream c.args.source.now) _ c.args.source.now.limit _ (values c.args.kind) c.args.mode u
+    (ap (limited_stream g.S.Source.stream) c.over-cons.ensures.source) (ap (λ s. s.limit) c.over-cons.ensures.source) (ap values c.over-cons.ensures.kind)
+    c.over-cons.ensures.state c.over-cons.ensures.mode c.over-cons.ensures.marked (search rules) (search rules)
 
 pub walk_over-loop-smaller : goal.walk_over-loop-smaller
 walk_over-loop-smaller g t c =
@@ -177,8 +180,9 @@ walk_over-returns-clause-ran g t c u =
     let name = moves_constructed_name g.S.Source.stream c.loop.cons c.step.new.cons c.step.ensures.moves in
     ran_values stop_cause _ k _ (moved_twice_is_moved _ j k c.loop.invariant.walks.moves c.in_ok-step.ensures.moves)
     (c.in_ok-step.ensures.passed.marked ∙ c.loop.invariant.walks.marked) (none_value (IsDone k) _ c.if-is_some.ensures c.in_ok-step.ensures.passed.done) tt
-    (limited_stream g.S.Source.stream c.args.source.now) _ c.args.source.now.limit _ (values c.args.kind) c.args.mode u refl refl refl refl refl refl
-    (search rules) (search rules)
+    (limited_stream g.S.Source.stream c.args.source.now) _ c.args.source.now.limit _ (values c.args.kind) c.args.mode u
+    (ap (limited_stream g.S.Source.stream) c.over-cons.ensures.source) (ap (λ s. s.limit) c.over-cons.ensures.source) (ap values c.over-cons.ensures.kind)
+    c.over-cons.ensures.state c.over-cons.ensures.mode c.over-cons.ensures.marked (search rules) (search rules)
 
 pub walk_over-returns-clause-no_fault : goal.walk_over-returns-clause-no_fault
 unfolding of_constructed
@@ -186,3 +190,4 @@ walk_over-returns-clause-no_fault g t c =
     let name = moves_constructed_name g.S.Source.stream c.loop.cons c.step.new.cons c.step.ensures.moves in
     let same : c.step.new.cons.source.now ≡ c.source-else-is_some-1.given.0 = search rules in
     ap (λ z. (limited_stream g.S.Source.stream z).faults) (sym same) ∙ c.in_ok-step.ensures.passed.no_fault ∙ c.loop.invariant.no_fault
+    ∙ ap (λ z. (limited_stream g.S.Source.stream z).faults) c.over-cons.ensures.source
