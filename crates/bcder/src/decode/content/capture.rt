@@ -74,6 +74,7 @@ where
         ≡ (S.stream (behind view.old.source)).kept }
 {
     let start = view.pos();
+    // No call of `over`: behind it a proof can't tell what is left of a view that names a lifetime.
     let mut cons = Constructed {
         source: &mut *view,
         kind,

@@ -426,6 +426,7 @@ impl<'a, S: Source> Constructed<'a, S> {
         ensures moves { Moves (before S.stream self) (after S.stream self) }
         ensures skipped { SkippedOne S.stream self result }
     {
+        // No call makes the copy, since a call would get the address of the content.
         let mut copy = Constructed {
             source: &mut *self.source,
             kind: self.kind,

@@ -194,6 +194,7 @@ fn walk_copy<S: Source>(cons: &mut Constructed<'_, S>) -> Result<Option<()>, Sto
     ensures moves { Between S.stream cons Moves }
     ensures passed { PassedStep S.stream cons result }
 {
+    // No call makes the copy, since a call would get the address of the content.
     let mut copy = Constructed {
         source: &mut *cons.source,
         kind: cons.kind,
