@@ -31,6 +31,7 @@ pub mod Nested
 pub mod Repeating
 pub mod Keeping
 pub mod Noting
+pub mod Places
 pub mod Numbers
 pub mod Reading
 pub mod Contents

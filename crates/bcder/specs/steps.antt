@@ -11,6 +11,7 @@ pub mod WalkSteps
 pub mod PeekTag
 pub mod Answers
 pub mod Enclosing
+pub mod Places
 pub mod Growing
 pub mod Stacked
 pub mod Buffer

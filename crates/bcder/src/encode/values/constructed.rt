@@ -9,13 +9,14 @@ ghost use Rattle.bcder.specs.calls.Encoders.{into_result};
 ghost use Rattle.bcder.specs.calls.Noted.{noted, ReadsContents, Notes, MayRead, HasRead};
 ghost use Rattle.bcder.specs.steps.Enclosing.{EnclosedSize, MeasuredInside, TakesContents};
 ghost use Rattle.bcder.specs.steps.Enclosing.{TellsLength, WritesEnclosed};
+ghost use Rattle.bcder.specs.steps.Places.{ReservesContents, FillsContents};
 ghost use Rattle.bcder.specs.laws.Meanings.{constructed_lawful};
 
 use crate::encode::header::put_header;
 use crate::encode::sizes::{Sizes, SizesLeft};
 use crate::encode::slot::{Failed, into_result, slot, store_refusal};
 use crate::encode::target::put_all;
-use crate::encode::values::{Encoder, Values, note_inside};
+use crate::encode::values::{Encoder, Values};
 use crate::encode::{EncodeError, WriteError};
 use crate::length::Length;
 use crate::mode::Mode;
@@ -112,9 +113,31 @@ fn note_contents<V: Values>(inner: &V, mode: Mode, sizes: &mut Sizes) -> Result<
         (ReadsContents mode (V.means inner.now mode) (V.reads inner.now mode))
         sizes.old sizes.new) }
 {
+    let place = reserve_contents(mode, sizes);
+    let len = inner.note_sizes(mode, sizes)?;
+    fill_contents(mode, place, len, sizes);
+    Ok(len)
+}
+
+/// Reserves a place for the size of contents. In CER none is needed.
+#[inline(always)]
+fn reserve_contents(mode: Mode, sizes: &mut Sizes) -> usize
+    ensures { ReservesContents mode sizes.old result sizes.new }
+{
     match mode {
-        Mode::Cer => inner.note_sizes(mode, sizes),
-        Mode::Ber | Mode::Der => note_inside(inner, mode, sizes),
+        Mode::Cer => 0,
+        Mode::Ber | Mode::Der => sizes.reserve(),
+    }
+}
+
+/// Puts the size of contents into the place that was reserved for it.
+#[inline(always)]
+fn fill_contents(mode: Mode, place: usize, size: usize, sizes: &mut Sizes)
+    ensures { FillsContents mode sizes.old place size sizes.new }
+{
+    match mode {
+        Mode::Cer => {}
+        Mode::Ber | Mode::Der => sizes.fill(place, size),
     }
 }
 
