@@ -17,9 +17,7 @@ impl<T: Type> Type for Box<T> {
         T::tag()
     }
 
-    fn name() -> &'static str {
-        T::name()
-    }
+    const NAME: &'static str = T::NAME;
 
     fn expect<P: Trace>(path: &mut P) {
         T::expect(path);

@@ -59,9 +59,7 @@ impl<D: Parts> Type for D {
         <D::Tags>::tag()
     }
 
-    fn name() -> &'static str {
-        D::NAME
-    }
+    const NAME: &'static str = D::NAME;
 
     fn expect<P: Trace>(path: &mut P) {
         <D::Tags>::expect(path);

@@ -24,9 +24,7 @@ pub trait Type: Drop + Sized {
 
     /// The name of the type, for errors. It is empty, unless a [`Definition`](crate::Definition)
     /// gives one.
-    fn name() -> &'static str {
-        ""
-    }
+    const NAME: &'static str = "";
 
     /// Notes that a value of the type was expected.
     fn expect<P: Trace>(path: &mut P) {

@@ -115,7 +115,7 @@ fn explain<T: Type + Decode<S>, S: Source + Drop>(
 ) -> TypeError
     ensures { result.error ≡ error }
 {
-    let mut path = Path::new(alloc, T::name());
+    let mut path = Path::new(alloc, T::NAME);
     if !error.is_memory() {
         let is_known = match decode_traced::<T, S, Path>(alloc, mode, source, &mut path) {
             Ok(_) => false,
