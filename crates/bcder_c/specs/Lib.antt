@@ -1,16 +1,2 @@
 pub mod Rules
-pub mod Status
-pub mod Headings
-pub mod Depth
-pub mod Open
-pub mod Values
-pub mod Next
-pub mod Buffers
-pub mod Contents
-pub mod Identifiers
-pub mod Negated
-pub mod Strings
-pub mod Text
-pub mod Conversion
-pub mod Pieces
-pub mod Cutting
+pub mod Results

@@ -1,66 +1,13 @@
 //! The contents octets of bit strings.
-ghost use Rattle.std.specs.Prelude.{◌≡◌, ◌↔◌, ◌*◌, ◌/◌, ◌^◌, IsTrue};
+ghost use Rattle.std.specs.Prelude.{◌≡◌};
 ghost use Rattle.bcder.specs.declared.mode.Mode.{Mode as ModeValue};
-ghost use Rattle.bcder.specs.x690.BitString.{AreCleared, BitShape, IsBits, MayHave};
-ghost use Rattle.bcder_c.specs.Contents.{HasUnused};
+ghost use Rattle.bcder_c.specs.Results.{Found, unknown_rules};
 ghost use Rattle.bcder_c.specs.Rules.{AreRules, AreUnknown};
-ghost use Rattle.bcder_c.specs.Status.{Found, unknown_rules};
+ghost use Rattle.encodings.specs.Contents.{HasUnused};
 
-use crate::rules::mode_of;
-use crate::status::{ABSENT, DONE, UNKNOWN_RULES};
-use bcder::Mode;
-
-/// More octets than any bit string has, so that a `usize` can count its bits.
-const TOO_MANY: usize = 1 << 61;
-
-/// Returns whether `unused` bits of these octets can be unused (X.690, 8.6.2.2, 8.6.2.3).
-fn is_bits(unused: u8, octets: &[u8]) -> bool
-    ensures { IsTrue result ↔ IsBits (record { unused = unused; octets = octets.now }) }
-{
-    unused <= 7 && (unused == 0 || !octets.is_empty()) && octets.len() < TOO_MANY
-}
-
-/// Returns the octet with its last `unused` bits set to zero.
-fn cleared_octet(unused: u8, octet: u8) -> u8
-    ensures { result ≡ octet / 2 ^ unused * 2 ^ unused }
-{
-    if unused < 8 {
-        octet >> unused << unused
-    } else {
-        0
-    }
-}
-
-/// Returns whether the unused bits are zero (X.690, 11.2.1).
-fn is_cleared(unused: u8, octets: &[u8]) -> bool
-    ensures { IsTrue result ↔ AreCleared unused octets.now }
-{
-    match octets {
-        [] => true,
-        [.., last] => cleared_octet(unused, *last) == *last,
-    }
-}
-
-/// Returns whether the mode allows such a bit string in a primitive value (X.690, 9.2, 11.2.1).
-fn may_have(mode: Mode, unused: u8, octets: &[u8]) -> bool
-    ensures { IsTrue result ↔ MayHave mode (record { unused = unused; octets = octets.now }) }
-{
-    match mode {
-        Mode::Ber => true,
-        Mode::Cer => octets.len() < 1000 && is_cleared(unused, octets),
-        Mode::Der => is_cleared(unused, octets),
-    }
-}
-
-/// Returns whether the octets are contents octets of a bit string.
-pub(crate) fn is_bit_string(mode: Mode, contents: &[u8]) -> bool
-    ensures { IsTrue result ↔ BitShape mode contents.now }
-{
-    match contents {
-        [] => false,
-        [unused, octets @ ..] => is_bits(*unused, octets) && may_have(mode, *unused, octets),
-    }
-}
+use crate::rules::{UNKNOWN_RULES, mode_of};
+use encodings::bits::unused_bits;
+use encodings::status::{ABSENT, DONE};
 
 /// Reads the contents octets of a BIT STRING (X.690, 8.6.2, 9.2, 11.2.1), and stores how many bits
 /// of the last octet are unused. The bits are in the octets after the first.
@@ -73,14 +20,11 @@ pub extern "C" fn bcder_bits(rules: u8, octets: &[u8], unused: &mut u8) -> u8
     let Some(mode) = mode_of(rules) else {
         return UNKNOWN_RULES;
     };
-    if !is_bit_string(mode, octets) {
-        return ABSENT;
-    }
-    match octets {
-        [first, ..] => {
-            *unused = *first;
+    match unused_bits(mode, octets) {
+        Some(read) => {
+            *unused = read;
             DONE
         }
-        [] => ABSENT,
+        None => ABSENT,
     }
 }

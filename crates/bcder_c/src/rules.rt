@@ -5,6 +5,9 @@ ghost use Rattle.bcder_c.specs.Rules.{AreRules, AreUnknown};
 
 use bcder::Mode;
 
+/// The status that says that a number stands for no rules.
+pub(crate) const UNKNOWN_RULES: u8 = 1;
+
 /// Returns the set of rules that the number stands for: 0 for BER, 1 for CER, 2 for DER.
 pub(crate) fn mode_of(rules: u8) -> Option<Mode>
     ensures known { MatchOption result

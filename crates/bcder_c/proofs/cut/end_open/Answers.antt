@@ -1,5 +1,0 @@
-use Rattle.bcder_c.proofs.Cutting.{ends_open}
-use Rattle.bcder_c.proofs.cut.end_open.Goals as goal
-
-pub returns-in-Ok-push : goal.returns-in-Ok-push
-returns-in-Ok-push c = λ k l f. ends_open k _ _ _ l c.in-Ok.ensures c.in-Ok-push.ensures f

@@ -1,9 +1,0 @@
-use Rattle.std.proofs.Common.{length}
-use Rattle.bcder_c.proofs.Identifiers.{InNumber}
-use Rattle.bcder_c.proofs.identifier.first_number.Given as goal
-
-abbrev pub invariant-loop-rest : goal.invariant-loop-rest
-invariant-loop-rest l = InNumber l.fn.octets l.rest l.high
-
-abbrev pub decreases-loop-rest : goal.decreases-loop-rest
-decreases-loop-rest l = length l.rest

@@ -1,9 +1,0 @@
-use Rattle.std.proofs.Common.{length}
-use Rattle.bcder_c.proofs.Identifiers.{InText}
-use Rattle.bcder_c.proofs.identifier.write_text.Given as goal
-
-abbrev pub invariant-loop-rest : goal.invariant-loop-rest
-invariant-loop-rest l = InText l.fn.octets l.rest l.fn.buffer l.buffer l.at
-
-abbrev pub decreases-loop-rest : goal.decreases-loop-rest
-decreases-loop-rest l = length l.rest

@@ -1,9 +1,0 @@
-use Rattle.std.proofs.Common.{length}
-use Rattle.bcder_c.proofs.Strings.{InFull}
-use Rattle.bcder_c.proofs.string.join_full.Given as goal
-
-abbrev pub invariant-loop-rest : goal.invariant-loop-rest
-invariant-loop-rest l = InFull l.fn.octets l.rest l.fn.buffer l.buffer l.at l.count l.full
-
-abbrev pub decreases-loop-rest : goal.decreases-loop-rest
-decreases-loop-rest l = length l.rest

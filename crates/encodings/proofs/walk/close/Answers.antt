@@ -1,0 +1,23 @@
+use Rattle.std.proofs.Common.{option_map, refl, ap, arith, rules}
+use Rattle.bcder.specs.x690.Identifier.{AreOctets}
+use Rattle.encodings.proofs.Walking.{closes_definite, goes_on_definite, closes_indefinite, goes_on_indefinite}
+use Rattle.encodings.proofs.walk.close.Goals as goal
+
+pub returns-then-is_empty : goal.returns-then-is_empty
+returns-then-is_empty c = (0, closes_definite _ _ _ _ (ap (option_map (λ s. s.now)) c.in-Some.is) (search rules), search rules)
+
+pub returns-else-is_empty : goal.returns-else-is_empty
+returns-else-is_empty c =
+    let o : AreOctets c.args.rest.now = λ i. omega (arith, c.type_inv.rest i) in
+    (goes_on_definite _ _ _ _ (ap (option_map (λ s. s.now)) c.in-Some.is) o (search rules), refl)
+
+pub returns-in-Some-end_at : goal.returns-in-Some-end_at
+returns-in-Some-end_at c =
+    let o : AreOctets c.args.rest.now = λ i. omega (arith, c.type_inv.rest i) in
+    let f = c.in-Some-end_at.ensures.found in
+    (_, closes_indefinite _ _ _ _ f.0 _ (ap (option_map (λ s. s.now)) c.in-None.is) o f.1 f.2 refl, refl)
+
+pub returns-in-None-end_at : goal.returns-in-None-end_at
+returns-in-None-end_at c =
+    let o : AreOctets c.args.rest.now = λ i. omega (arith, c.type_inv.rest i) in
+    (goes_on_indefinite _ _ _ (ap (option_map (λ s. s.now)) c.in-None.is) o c.in-None-end_at.ensures.none, refl)
