@@ -1,10 +1,10 @@
 //! Values in other rules (X.690, 9, 10, 11).
 //!
 //! Values in BER are what they are in other rules. For CER and DER, the octets are read into a list
-//! of items: primitive values, the beginnings and ends of constructed ones, and the parts of strings
-//! that were cut. For CER, strings of more than 1000 octets are cut anew. The list is written from
-//! its end, so that the length of a value is known when its header is written. This is done twice,
-//! the first time to count.
+//! of items: primitive values, the beginnings and ends of constructed ones, and the parts of
+//! strings that were cut. For CER, strings of more than 1000 octets are cut anew. The list is
+//! written from its end, so that the length of a value is known when its header is written. This is
+//! done twice, the first time to count.
 ghost use Rattle.std.specs.Prelude.{◌≡◌, ◌≢◌, ◌<◌, ◌+◌, ◌^◌, length, List, ℕ, option_map};
 ghost use Rattle.std.specs.Prelude.{IfOk, IfErr, IfSome, IfNone, None};
 ghost use Rattle.bcder.specs.declared.mode.Mode.{Mode as ModeValue};
