@@ -12,7 +12,7 @@ returns-clause-start c = λ e. starts _ _ _ _ e
 pub returns-clause-misused : goal.returns-clause-misused
 returns-clause-misused c =
     let small : length c.args.octets.now < no_offset = search rules in (
-      λ e. stands_for_none _ _ _ _ (c.advance.ensures.misused.0 e),
+      λ e. stands_for_none c.args.mode _ _ _ (c.advance.ensures.misused.0 e),
       λ none. c.advance.ensures.misused.1 (λ stands. stands_for_some _ _ _ small stands none),
     )
 
