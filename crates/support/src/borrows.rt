@@ -10,7 +10,7 @@ use bytes::Bytes;
 use std::alloc::Global;
 
 /// The reason why octets could not be taken.
-#[derive(Debug, Drop, PartialEq, Eq)]
+#[derive(Debug, Drop)]
 pub enum TakeError<E> {
     /// The source failed.
     Source(E),

@@ -17,5 +17,5 @@ pub use kept::{Kept, Text};
 pub use lines::{CAPTURES, CONTENTS, KEPT, Line, OCTETS, PASSES, STRINGS, TAKES, TYPED};
 pub use octets::{Either, Reader, Width};
 pub use passes::{Capture, Pass};
-pub use takes::Take;
+pub use takes::{Inside, Number, Take, take_by};
 pub use typed::Typed;

@@ -13,7 +13,7 @@ use bcder::{Mode, Tag};
 use std::io;
 
 /// This number of octets `00`, as the contents octets of an OCTET STRING (X.690, 8.7).
-#[derive(Clone, Copy, Debug)]
+#[derive(Clone, Copy)]
 pub struct Zeros(pub usize);
 
 impl PrimitiveContent for Zeros {
@@ -40,7 +40,7 @@ impl PrimitiveContent for Zeros {
 }
 
 /// This number of NULLs, one after the other (X.690, 8.8).
-#[derive(Clone, Copy, Debug)]
+#[derive(Clone, Copy)]
 pub struct Nulls(pub usize);
 
 /// Returns the number of octets of `count` NULLs.

@@ -12,7 +12,7 @@ use bcder::decode::{Constructed, DecodeError, Source};
 use std::alloc::Global;
 
 /// A call on content.
-#[derive(Clone, Copy, Debug, PartialEq, Eq)]
+#[derive(Clone, Copy)]
 pub enum Call {
     Take(Take),
     Typed(Typed),

@@ -8,7 +8,7 @@ use bcder::{BitString, ConstOid, Integer, OctetString, Oid, Tag, Unsigned};
 use std::alloc::Global;
 
 /// A reader of an integer or an object identifier.
-#[derive(Clone, Copy, Debug, PartialEq, Eq)]
+#[derive(Clone, Copy)]
 pub enum Kept {
     Integer,
     Unsigned,
@@ -34,7 +34,10 @@ fn len_of<S: Source>(
         Kept::Integer => Ok(Some(Integer::take_from(alloc, cons)?.as_slice().len())),
         Kept::Unsigned => Ok(Some(Unsigned::take_from(alloc, cons)?.as_slice().len())),
         Kept::Identifier => Ok(Some(Oid::take_from(alloc, cons)?.0.len())),
-        _ => Ok(Oid::take_opt_from(alloc, cons)?.map(|oid| oid.0.len())),
+        _ => match Oid::take_opt_from(alloc, cons)? {
+            Some(oid) => Ok(Some(oid.0.len())),
+            None => Ok(None),
+        },
     }
 }
 
@@ -70,7 +73,7 @@ pub fn ask<S: Source>(
 }
 
 /// A reader of a string.
-#[derive(Clone, Copy, Debug, PartialEq, Eq)]
+#[derive(Clone, Copy)]
 pub enum Text {
     Bits,
     BitsOfContent,

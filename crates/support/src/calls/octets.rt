@@ -7,7 +7,7 @@ use bcder::{Integer, Oid, Unsigned};
 use std::alloc::Global;
 
 /// A reader of a primitive value's octets.
-#[derive(Clone, Copy, Debug, PartialEq, Eq)]
+#[derive(Clone, Copy)]
 pub enum Reader {
     Bool,
     Null,
@@ -26,7 +26,7 @@ pub enum Reader {
 }
 
 /// The number of bits that the type of a number has.
-#[derive(Clone, Copy, Debug, PartialEq, Eq)]
+#[derive(Clone, Copy)]
 pub enum Width {
     W8,
     W16,
@@ -174,7 +174,7 @@ pub fn ask<S: Source>(
 }
 
 /// A reader of content of either form.
-#[derive(Clone, Copy, Debug, PartialEq, Eq)]
+#[derive(Clone, Copy)]
 pub enum Either {
     U8,
     U16,

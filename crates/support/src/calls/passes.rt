@@ -6,7 +6,7 @@ use bcder::decode::{Constructed, DecodeError, Source, walk};
 use std::alloc::Global;
 
 /// A call that skips values.
-#[derive(Clone, Copy, Debug, PartialEq, Eq)]
+#[derive(Clone, Copy)]
 pub enum Pass {
     Walk,
     SkipOne,
@@ -86,7 +86,7 @@ pub fn ask<S: Source>(
 }
 
 /// A call that captures values.
-#[derive(Clone, Copy, Debug, PartialEq, Eq)]
+#[derive(Clone, Copy)]
 pub enum Capture {
     One,
     All,

@@ -5,7 +5,7 @@ use super::answer::{Answer, truth};
 use bcder::decode::{Constructed, DecodeError, Source};
 
 /// A call that takes a boolean, a null or an integer.
-#[derive(Clone, Copy, Debug, PartialEq, Eq)]
+#[derive(Clone, Copy)]
 pub enum Typed {
     Bool,
     OptBool,
@@ -42,6 +42,17 @@ fn take<S: Source>(
     }
 }
 
+/// Returns whether a number is 5, if there is one.
+fn is_five<T>(number: Option<T>) -> Option<bool>
+where
+    u64: From<T>,
+{
+    match number {
+        Some(number) => Some(u64::from(number) == u64::from(FIVE)),
+        None => None,
+    }
+}
+
 /// Takes a value if it is there, and returns the boolean, or whether the number is 5.
 fn take_opt<S: Source>(
     cons: &mut Constructed<'_, S>,
@@ -50,10 +61,10 @@ fn take_opt<S: Source>(
     ensures { Moved S.stream cons }
 {
     match typed {
-        Typed::OptU8 => Ok(cons.take_opt_u8()?.map(|number| number == FIVE)),
-        Typed::OptU16 => Ok(cons.take_opt_u16()?.map(|number| number == u16::from(FIVE))),
-        Typed::OptU32 => Ok(cons.take_opt_u32()?.map(|number| number == u32::from(FIVE))),
-        Typed::OptU64 => Ok(cons.take_opt_u64()?.map(|number| number == u64::from(FIVE))),
+        Typed::OptU8 => Ok(is_five(cons.take_opt_u8()?)),
+        Typed::OptU16 => Ok(is_five(cons.take_opt_u16()?)),
+        Typed::OptU32 => Ok(is_five(cons.take_opt_u32()?)),
+        Typed::OptU64 => Ok(is_five(cons.take_opt_u64()?)),
         _ => cons.take_opt_bool(),
     }
 }
