@@ -8,7 +8,7 @@ use bcder::decode::{ContentError, DecodeError};
 use std::alloc::Global;
 
 /// A call on content, or on what `enter` entered.
-#[derive(Clone, Copy, Debug, PartialEq, Eq)]
+#[derive(Clone, Copy, PartialEq, Eq)]
 pub enum Call {
     Value,
     OptValue,
@@ -111,7 +111,7 @@ const TAGS: [(&str, Tag); 8] = [
 ];
 
 /// What a closure does with the content that it gets.
-#[derive(Clone, Copy, Debug, PartialEq, Eq)]
+#[derive(Clone, Copy)]
 pub enum Use {
     /// It skips two values, or all octets.
     Pass,
@@ -135,7 +135,7 @@ const USES: [(&str, Use); 4] = [
 ];
 
 /// What a call returned.
-#[derive(Clone, Copy, Debug, PartialEq, Eq)]
+#[derive(Clone, Copy, PartialEq, Eq)]
 pub enum Answer {
     /// A value, or success.
     Taken,
@@ -178,7 +178,7 @@ const ANSWERS: [(&str, Answer); 8] = [
 ];
 
 /// A call, the tag or the number of its value, what its closure does, and the answer.
-#[derive(Clone, Copy, Debug)]
+#[derive(Clone, Copy)]
 pub struct TakeStep {
     pub call: Call,
     pub tag: Tag,

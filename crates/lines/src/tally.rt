@@ -7,7 +7,7 @@ pub trait Differing {
 }
 
 /// How many answers were compared, and how many of them differ.
-#[derive(Clone, Copy, Debug, Default)]
+#[derive(Clone, Copy, Default)]
 pub struct Tally {
     pub compared: u64,
     pub differ: u64,
