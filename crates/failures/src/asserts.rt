@@ -3,6 +3,7 @@
 //! `?`, with all that it owns there. [`done`] ends the test instead.
 ghost use Rattle.std.specs.Prelude.{◌≡◌, Ok};
 
+use bcder::decode::DecodeError;
 use std::fmt::Debug;
 use std::process::Abort;
 
@@ -21,4 +22,12 @@ pub fn done<T, E: Debug>(rt: &impl Abort, outcome: Result<T, E>) -> T
     ensures { outcome ≡ Ok result }
 {
     outcome.expect(rt, "refused")
+}
+
+/// Returns whether a call was refused for the content.
+pub fn is_refused<T: Drop, E: Drop>(outcome: Result<T, DecodeError<E>>) -> bool {
+    match outcome {
+        Ok(_) => false,
+        Err(error) => error.content_error().is_some(),
+    }
 }

@@ -3,12 +3,13 @@
 
 ghost use Rattle.bcder.specs.calls.Views.{Moved, MovedContent};
 
-use crate::asserts::holds;
+use crate::asserts::{holds, is_refused};
 use crate::over::{shared, sip};
-use bcder::decode::{Constructed, Content, DecodeError, SliceSource, Source, walk};
+use bcder::decode::{Constructed, Content, DecodeError, Primitive, SliceSource, Source, walk};
 use bcder::{Mode, Tag};
 use std::alloc::Global;
 use std::process::Abort;
+use support::calls::{Inside, Number, Take, take_by};
 
 /// Checks that no take, skip or capture succeeds.
 fn takes_nothing<S: Source>(rt: &impl Abort, alloc: Global, cons: &mut Constructed<'_, S>)
@@ -21,32 +22,14 @@ fn takes_nothing<S: Source>(rt: &impl Abort, alloc: Global, cons: &mut Construct
     holds(rt, cons.capture_all(alloc).is_err());
 }
 
-/// A call that takes a constructed value, whose closure gets what is inside.
-#[derive(Clone, Copy, Debug, PartialEq, Eq)]
-enum Take {
-    Value,
-    ValueIf,
-    Constructed,
-    ConstructedIf,
-    Sequence,
-    Set,
-    OptValue,
-    OptValueIf,
-    OptConstructed,
-    OptConstructedIf,
-    OptSequence,
-    OptSet,
-}
-
 /// A call on the innermost value.
-#[derive(Clone, Copy, Debug, PartialEq, Eq)]
+#[derive(Clone, Copy)]
 enum Last {
     U8,
     OptU8,
-    Primitive,
-    PrimitiveIf,
-    OptPrimitive,
-    OptPrimitiveIf,
+
+    /// It takes the octets.
+    Octets(Take),
     Walk,
     SkipOne,
 }
@@ -57,7 +40,7 @@ struct Drops<'a, R> {
     rt: &'a R,
     alloc: Global,
 
-    /// The call at each level.
+    /// The call at each level, which takes a constructed value.
     take: Take,
 
     /// The level at which the error is dropped. Level 0 is inside the outermost value.
@@ -86,10 +69,7 @@ impl<'a, R: Abort> Drops<'a, R> {
         if level != self.level {
             return met;
         }
-        holds(
-            self.rt,
-            met.is_err_and(|error| error.content_error().is_some()),
-        );
+        holds(self.rt, is_refused(met));
         takes_nothing(self.rt, self.alloc, cons);
         Ok(0)
     }
@@ -108,31 +88,12 @@ trait Nested {
 
 /// The innermost value, an INTEGER.
 #[derive(Clone, Copy)]
-struct Number {
+struct Innermost {
     level: usize,
     call: Last,
 }
 
-impl Number {
-    /// Takes the octets of the number.
-    fn take_octets<S: Source>(
-        self,
-        cons: &mut Constructed<'_, S>,
-    ) -> Result<u8, DecodeError<S::Error>>
-        ensures { Moved S.stream cons }
-    {
-        let taken = match self.call {
-            Last::Primitive => return cons.take_primitive(|_tag, octets| octets.to_u8()),
-            Last::PrimitiveIf => return cons.take_primitive_if(
-                Tag::INTEGER,
-                |octets| octets.to_u8(),
-            ),
-            Last::OptPrimitive => cons.take_opt_primitive(|_tag, octets| octets.to_u8())?,
-            _ => cons.take_opt_primitive_if(Tag::INTEGER, |octets| octets.to_u8())?,
-        };
-        Ok(taken.unwrap_or(0))
-    }
-
+impl Innermost {
     /// Takes or skips the number.
     fn pass<S: Source>(
         self,
@@ -146,12 +107,15 @@ impl Number {
             Last::OptU8 => Ok(cons.take_opt_u8()?.unwrap_or(0)),
             Last::Walk => Ok(u8::from(walk(cons)?.is_some())),
             Last::SkipOne => Ok(u8::from(cons.skip_one(alloc)?.is_some())),
-            _ => self.take_octets(cons),
+            Last::Octets(take) => {
+                let taken = take_by(cons, take, Tag::INTEGER, &mut Number)?;
+                Ok(taken.unwrap_or(0))
+            }
         }
     }
 }
 
-impl Nested for Number {
+impl Nested for Innermost {
     fn take<S: Source, R: Abort>(
         &self,
         drops: &Drops<'_, R>,
@@ -171,69 +135,43 @@ struct Around<T> {
     inner: T,
 }
 
-impl<T: Nested> Around<T> {
-    /// Takes what is in constructed content.
-    fn take_content<S: Source, R: Abort>(
-        &self,
-        drops: &Drops<'_, R>,
+/// What is done inside a value: the next one is taken.
+#[derive(Drop)]
+struct Next<'a, 'b, T, R> {
+    inner: &'a T,
+    drops: &'a Drops<'b, R>,
+}
+
+impl<T: Nested, R: Abort> Inside for Next<'_, '_, T, R> {
+    fn of_content<S: Source>(
+        &mut self,
+        _tag: Tag,
         content: &mut Content<'_, S>,
-    ) -> Result<u8, DecodeError<S::Error>>
-        ensures { MovedContent S.stream content }
-    {
+    ) -> Result<u8, DecodeError<S::Error>> {
         match content {
-            Content::Constructed(inner) => self.inner.take(drops, inner),
+            Content::Constructed(values) => self.inner.take(self.drops, values),
             Content::Primitive(octets) => octets.to_u8(),
         }
     }
 
-    /// Takes the value by a call that refuses if there is none.
-    fn enter<S: Source, R: Abort>(
-        &self,
-        drops: &Drops<'_, R>,
-        cons: &mut Constructed<'_, S>,
-    ) -> Result<u8, DecodeError<S::Error>>
-        ensures { Moved S.stream cons }
-    {
-        match drops.take {
-            Take::Value => cons.take_value(|_tag, content| self.take_content(drops, content)),
-            Take::ValueIf => {
-                cons.take_value_if(drops.tag(), |content| self.take_content(drops, content))
-            }
-            Take::Constructed => cons.take_constructed(|_tag, inner| self.inner.take(drops, inner)),
-            Take::ConstructedIf => {
-                cons.take_constructed_if(drops.tag(), |inner| self.inner.take(drops, inner))
-            }
-            Take::Set => cons.take_set(|inner| self.inner.take(drops, inner)),
-            _ => cons.take_sequence(|inner| self.inner.take(drops, inner)),
-        }
+    fn of_octets<S: Source>(
+        &mut self,
+        _tag: Tag,
+        octets: &mut Primitive<'_, S>,
+    ) -> Result<u8, DecodeError<S::Error>> {
+        octets.to_u8()
     }
 
-    /// Takes the value by a call that returns `None` if there is none.
-    fn enter_opt<S: Source, R: Abort>(
-        &self,
-        drops: &Drops<'_, R>,
-        cons: &mut Constructed<'_, S>,
-    ) -> Result<Option<u8>, DecodeError<S::Error>>
-        ensures { Moved S.stream cons }
-    {
-        match drops.take {
-            Take::OptValue => {
-                cons.take_opt_value(|_tag, content| self.take_content(drops, content))
-            }
-            Take::OptValueIf => {
-                cons.take_opt_value_if(drops.tag(), |content| self.take_content(drops, content))
-            }
-            Take::OptConstructed => {
-                cons.take_opt_constructed(|_tag, inner| self.inner.take(drops, inner))
-            }
-            Take::OptConstructedIf => {
-                cons.take_opt_constructed_if(drops.tag(), |inner| self.inner.take(drops, inner))
-            }
-            Take::OptSet => cons.take_opt_set(|inner| self.inner.take(drops, inner)),
-            _ => cons.take_opt_sequence(|inner| self.inner.take(drops, inner)),
-        }
+    fn of_values<S: Source>(
+        &mut self,
+        _tag: Tag,
+        values: &mut Constructed<'_, S>,
+    ) -> Result<u8, DecodeError<S::Error>> {
+        self.inner.take(self.drops, values)
     }
+}
 
+impl<T: Nested> Around<T> {
     /// Takes the value.
     fn pass<S: Source, R: Abort>(
         &self,
@@ -242,15 +180,12 @@ impl<T: Nested> Around<T> {
     ) -> Result<u8, DecodeError<S::Error>>
         ensures { Moved S.stream cons }
     {
-        match drops.take {
-            Take::OptValue
-            | Take::OptValueIf
-            | Take::OptConstructed
-            | Take::OptConstructedIf
-            | Take::OptSequence
-            | Take::OptSet => Ok(self.enter_opt(drops, cons)?.unwrap_or(0)),
-            _ => self.enter(drops, cons),
-        }
+        let mut next = Next {
+            inner: &self.inner,
+            drops,
+        };
+        let taken = take_by(cons, drops.take, drops.tag(), &mut next)?;
+        Ok(taken.unwrap_or(0))
     }
 }
 
@@ -274,14 +209,11 @@ fn nest<T: Nested>(level: usize, inner: T) -> Around<T> {
 
 /// Checks that the INTEGER in five values is refused.
 fn refuses<S: Source>(rt: &impl Abort, drops: &Drops<'_, impl Abort>, source: &mut S, call: Last) {
-    let number = Number { level: 4, call };
+    let number = Innermost { level: 4, call };
     let inner = nest(1, nest(2, nest(3, number)));
     let all = nest(5, nest(0, inner));
     let decoded = Mode::Ber.decode_lent(source, |cons| all.pass(drops, cons));
-    holds(
-        rt,
-        decoded.is_err_and(|error| error.content_error().is_some()),
-    );
+    holds(rt, is_refused(decoded));
 }
 
 /// Returns a truncated INTEGER in five values of definite length.
@@ -298,6 +230,7 @@ fn indefinite(tag: u8) -> [u8; 13] {
     ]
 }
 
+/// The calls that take a constructed value, whose closure gets what is inside.
 const TAKES: [Take; 12] = [
     Take::Value,
     Take::ValueIf,
@@ -316,10 +249,10 @@ const TAKES: [Take; 12] = [
 const LASTS: [Last; 8] = [
     Last::U8,
     Last::OptU8,
-    Last::Primitive,
-    Last::PrimitiveIf,
-    Last::OptPrimitive,
-    Last::OptPrimitiveIf,
+    Last::Octets(Take::Primitive),
+    Last::Octets(Take::PrimitiveIf),
+    Last::Octets(Take::OptPrimitive),
+    Last::Octets(Take::OptPrimitiveIf),
     Last::Walk,
     Last::SkipOne,
 ];

@@ -22,7 +22,7 @@ use std::process::Abort;
 use support::encoders::Zeros;
 
 /// How a target fails.
-#[derive(Clone, Copy, Debug, PartialEq, Eq)]
+#[derive(Clone, Copy)]
 enum Failure {
     /// It returns that it took no octet.
     Nothing,
@@ -203,7 +203,7 @@ fn lists_of_values(rt: HostRuntime) {
 /// target.
 fn at_once(rt: &impl Abort, alloc: Global, lines: &[Line]) {
     for (encoder, mode, wanted) in lines {
-        if wanted.first().is_some_and(|leading| leading & 0x20 == 0) {
+        if wanted.first().copied().unwrap_or(0x20) & 0x20 == 0 {
             let mut target = Target::new(alloc, false, 0, Failure::Nothing);
             done(rt, write(rt, alloc, *encoder, *mode, &mut target));
             same(rt, target.calls, 1);

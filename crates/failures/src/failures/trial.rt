@@ -1,13 +1,13 @@
 //! A call that is tried: alone, with its error returned or dropped, and inside other calls.
-ghost use Rattle.bcder.specs.calls.Views.{Moved, MovedContent};
+ghost use Rattle.bcder.specs.calls.Views.{Moved, MovedContent, MovedOctets};
 
 use crate::asserts::{done, holds, same};
 use crate::over::{failing_sip, failing_whole};
-use bcder::decode::{Constructed, Content, DecodeError, Source};
-use bcder::{Mode, Tag};
+use bcder::decode::{Constructed, Content, DecodeError, Primitive, Source};
+use bcder::{Captured, Mode, Tag};
 use std::alloc::Global;
 use std::process::Abort;
-use support::calls::{Answer, Call, Take, ask};
+use support::calls::{Answer, Call, Inside, Take, ask, take_by};
 use support::sip::Sip;
 
 /// A call, the mode and the octets that it reads, and what it returns and how many octets it leaves
@@ -23,14 +23,14 @@ pub struct Trial<'a> {
 
 /// Which request of a source fails, counted from 1, and whether a request makes all that is left
 /// available, or no more than it asks for.
-#[derive(Clone, Copy, Debug, PartialEq, Eq)]
+#[derive(Clone, Copy)]
 pub struct Failing {
     pub number: usize,
     pub whole: bool,
 }
 
 /// Where a call is made, and what becomes of its error.
-#[derive(Clone, Copy, Debug, PartialEq, Eq)]
+#[derive(Clone, Copy)]
 pub enum Place {
     /// In `decode_lent`, and the closure drops the error.
     Dropped,
@@ -46,7 +46,7 @@ pub enum Place {
 }
 
 /// Where a source failed.
-#[derive(Clone, Copy, Debug, PartialEq, Eq)]
+#[derive(Clone, Copy)]
 enum Met {
     /// Nowhere, or in the call around the one that is tried.
     Nothing,
@@ -67,7 +67,15 @@ fn source_of(rt: &impl Abort, alloc: Global, octets: &[u8], failing: Failing) ->
     }
 }
 
-impl Trial<'_> {
+/// Returns whether these many octets were captured.
+fn has_captured<E: Drop>(outcome: Result<Captured, DecodeError<E>>, all: usize) -> bool {
+    match outcome {
+        Ok(captured) => captured.len() == all,
+        Err(_) => false,
+    }
+}
+
+impl<'a> Trial<'a> {
     /// Returns whether the call is refused if the source doesn't fail.
     fn is_refused(&self) -> bool {
         matches!(self.wanted, Answer::Lacking | Answer::Refused)
@@ -169,141 +177,6 @@ impl Trial<'_> {
         }
     }
 
-    /// Makes the call in content, which has to be constructed, and skips what it leaves.
-    fn settle_content<S: Source>(
-        &self,
-        rt: &impl Abort,
-        alloc: Global,
-        content: &mut Content<'_, S>,
-    ) -> (Result<(), DecodeError<S::Error>>, Met)
-        ensures { MovedContent S.stream content }
-    {
-        let mut met = Met::Nothing;
-        let outcome = content.as_constructed(|inner| {
-            met = self.settle(rt, alloc, inner);
-            Ok(())
-        });
-        (outcome, met)
-    }
-
-    /// Makes the call in a value of either form, and skips what it leaves.
-    fn enclose_value<S: Source>(
-        &self,
-        rt: &impl Abort,
-        alloc: Global,
-        cons: &mut Constructed<'_, S>,
-        take: Take,
-    ) -> (Result<Option<()>, DecodeError<S::Error>>, Met)
-        ensures { Moved S.stream cons }
-    {
-        let mut met = Met::Nothing;
-        let outcome = match take {
-            Take::OptValue => cons.take_opt_value(|_tag, content| {
-                let (outcome, found) = self.settle_content(rt, alloc, content);
-                met = found;
-                outcome
-            }),
-            Take::OptValueIf => cons.take_opt_value_if(Tag::SEQUENCE, |content| {
-                let (outcome, found) = self.settle_content(rt, alloc, content);
-                met = found;
-                outcome
-            }),
-            Take::ValueIf => {
-                let taken = cons.take_value_if(Tag::SEQUENCE, |content| {
-                    let (outcome, found) = self.settle_content(rt, alloc, content);
-                    met = found;
-                    outcome
-                });
-                taken.map(|_| Some(()))
-            }
-            _ => {
-                let taken = cons.take_value(|_tag, content| {
-                    let (outcome, found) = self.settle_content(rt, alloc, content);
-                    met = found;
-                    outcome
-                });
-                taken.map(|_| Some(()))
-            }
-        };
-        (outcome, met)
-    }
-
-    /// Makes the call in a constructed value, and skips what it leaves.
-    fn enclose_constructed<S: Source>(
-        &self,
-        rt: &impl Abort,
-        alloc: Global,
-        cons: &mut Constructed<'_, S>,
-        take: Take,
-    ) -> (Result<Option<()>, DecodeError<S::Error>>, Met)
-        ensures { Moved S.stream cons }
-    {
-        let mut met = Met::Nothing;
-        let outcome = match take {
-            Take::OptConstructed => cons.take_opt_constructed(|_tag, inner| {
-                met = self.settle(rt, alloc, inner);
-                Ok(())
-            }),
-            Take::OptConstructedIf => cons.take_opt_constructed_if(Tag::SEQUENCE, |inner| {
-                met = self.settle(rt, alloc, inner);
-                Ok(())
-            }),
-            Take::ConstructedIf => {
-                let taken = cons.take_constructed_if(Tag::SEQUENCE, |inner| {
-                    met = self.settle(rt, alloc, inner);
-                    Ok(())
-                });
-                taken.map(|_| Some(()))
-            }
-            _ => {
-                let taken = cons.take_constructed(|_tag, inner| {
-                    met = self.settle(rt, alloc, inner);
-                    Ok(())
-                });
-                taken.map(|_| Some(()))
-            }
-        };
-        (outcome, met)
-    }
-
-    /// Makes the call in a SEQUENCE or a SET, and skips what it leaves.
-    fn enclose_sequence<S: Source>(
-        &self,
-        rt: &impl Abort,
-        alloc: Global,
-        cons: &mut Constructed<'_, S>,
-        take: Take,
-    ) -> (Result<Option<()>, DecodeError<S::Error>>, Met)
-        ensures { Moved S.stream cons }
-    {
-        let mut met = Met::Nothing;
-        let outcome = match take {
-            Take::OptSequence => cons.take_opt_sequence(|inner| {
-                met = self.settle(rt, alloc, inner);
-                Ok(())
-            }),
-            Take::OptSet => cons.take_opt_set(|inner| {
-                met = self.settle(rt, alloc, inner);
-                Ok(())
-            }),
-            Take::Set => {
-                let taken = cons.take_set(|inner| {
-                    met = self.settle(rt, alloc, inner);
-                    Ok(())
-                });
-                taken.map(|_| Some(()))
-            }
-            _ => {
-                let taken = cons.take_sequence(|inner| {
-                    met = self.settle(rt, alloc, inner);
-                    Ok(())
-                });
-                taken.map(|_| Some(()))
-            }
-        };
-        (outcome, met)
-    }
-
     /// Makes the call in a value that another call takes, and skips what it leaves.
     fn enclose<S: Source>(
         &self,
@@ -311,18 +184,17 @@ impl Trial<'_> {
         alloc: Global,
         cons: &mut Constructed<'_, S>,
         take: Take,
-    ) -> (Result<Option<()>, DecodeError<S::Error>>, Met)
+    ) -> (Result<Option<u8>, DecodeError<S::Error>>, Met)
         ensures { Moved S.stream cons }
     {
-        match take {
-            Take::Value | Take::OptValue | Take::ValueIf | Take::OptValueIf => {
-                self.enclose_value(rt, alloc, cons, take)
-            }
-            Take::Sequence | Take::OptSequence | Take::Set | Take::OptSet => {
-                self.enclose_sequence(rt, alloc, cons, take)
-            }
-            _ => self.enclose_constructed(rt, alloc, cons, take),
-        }
+        let mut inside = Settling {
+            trial: *self,
+            rt,
+            alloc,
+            met: Met::Nothing,
+        };
+        let outcome = take_by(cons, take, Tag::SEQUENCE, &mut inside);
+        (outcome, inside.met)
     }
 
     /// Makes the call in a capture, and skips what it leaves. A capture that is refused leaves the
@@ -332,7 +204,7 @@ impl Trial<'_> {
         rt: &impl Abort,
         alloc: Global,
         cons: &mut Constructed<'_, S>,
-    ) -> (Result<Option<()>, DecodeError<S::Error>>, Met)
+    ) -> (Result<Option<u8>, DecodeError<S::Error>>, Met)
         ensures { Moved S.stream cons }
     {
         let mut met = Met::Nothing;
@@ -343,13 +215,12 @@ impl Trial<'_> {
         let outcome = match outcome {
             Ok(captured) => {
                 same(rt, captured.len(), self.octets.len());
-                Ok(Some(()))
+                Ok(Some(0))
             }
             Err(error) => {
                 if self.wanted != Answer::Refused {
                     let again = cons.capture_all(alloc);
-                    let all = self.octets.len();
-                    holds(rt, again.is_ok_and(|captured| captured.len() == all));
+                    holds(rt, has_captured(again, self.octets.len()));
                 }
                 Err(error)
             }
@@ -395,13 +266,13 @@ impl Trial<'_> {
             outcome
         });
         let struck = source.faults() == 1;
-        let usable = !struck || met == Met::InCall && self.call.captures();
+        let usable = !struck || matches!(met, Met::InCall) && self.call.captures();
         match decoded {
             Ok(found) => holds(
                 rt,
                 found.is_some() && usable && self.wanted != Answer::Refused,
             ),
-            Err(error) if struck && met == Met::Nothing => holds(rt, error.is_source()),
+            Err(error) if struck && matches!(met, Met::Nothing) => holds(rt, error.is_source()),
             Err(error) => {
                 holds(rt, error.content_error().is_some());
                 holds(rt, !usable || self.wanted == Answer::Refused);
@@ -441,6 +312,43 @@ impl Trial<'_> {
             }
         }
         holds(rt, false);
+    }
+}
+
+/// A call that is tried inside another one, which takes a constructed value, and where the source
+/// failed there.
+#[derive(Clone, Copy)]
+struct Settling<'a, R> {
+    trial: Trial<'a>,
+    rt: &'a R,
+    alloc: Global,
+    met: Met,
+}
+
+impl<R: Abort> Inside for Settling<'_, R> {
+    fn of_content<S: Source>(
+        &mut self,
+        tag: Tag,
+        content: &mut Content<'_, S>,
+    ) -> Result<u8, DecodeError<S::Error>> {
+        content.as_constructed(|values| self.of_values(tag, values))
+    }
+
+    fn of_octets<S: Source>(
+        &mut self,
+        _tag: Tag,
+        octets: &mut Primitive<'_, S>,
+    ) -> Result<u8, DecodeError<S::Error>> {
+        octets.to_u8()
+    }
+
+    fn of_values<S: Source>(
+        &mut self,
+        _tag: Tag,
+        values: &mut Constructed<'_, S>,
+    ) -> Result<u8, DecodeError<S::Error>> {
+        self.met = self.trial.settle(self.rt, self.alloc, values);
+        Ok(0)
     }
 }
 

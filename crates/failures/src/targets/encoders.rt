@@ -12,7 +12,7 @@ use std::io;
 use std::process::Abort;
 
 /// An encoder of a known value.
-#[derive(Clone, Copy, Debug, PartialEq, Eq)]
+#[derive(Clone, Copy)]
 pub enum Encoder {
     /// A value with the tag of its type.
     Value(Content),
@@ -37,7 +37,7 @@ pub enum Encoder {
 }
 
 /// A known primitive value.
-#[derive(Clone, Copy, Debug, PartialEq, Eq)]
+#[derive(Clone, Copy)]
 pub enum Content {
     I8,
     I16,

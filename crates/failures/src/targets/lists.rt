@@ -14,7 +14,7 @@ use std::io;
 use std::process::Abort;
 
 /// A list of values, a constructed value, or one of several.
-#[derive(Clone, Copy, Debug, PartialEq, Eq)]
+#[derive(Clone, Copy)]
 pub enum Listed {
     Sequence,
     SequenceAs,

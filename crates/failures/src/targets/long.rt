@@ -10,7 +10,7 @@ use std::io;
 use std::process::Abort;
 
 /// An encoder of a string of 1001 octets.
-#[derive(Clone, Copy, Debug, PartialEq, Eq)]
+#[derive(Clone, Copy)]
 pub enum Long {
     Slice,
     Whole,
@@ -31,7 +31,7 @@ pub const LONG: [(Long, u8); 5] = [
 /// Returns the octets of the string. For a wrapped value they are that value.
 pub fn octets_of(rt: &impl Abort, alloc: Global, long: Long) -> Vec<u8> {
     let mut octets = Vec::new(alloc);
-    if long == Long::Wrapped {
+    if matches!(long, Long::Wrapped) {
         done(rt, octets.extend_from_slice(&[0x04, 0x82, 0x03, 0xE5]));
     }
     for index in octets.len()..1001 {

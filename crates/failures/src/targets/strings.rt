@@ -10,7 +10,7 @@ use std::io;
 use std::process::Abort;
 
 /// A known string.
-#[derive(Clone, Copy, Debug, PartialEq, Eq)]
+#[derive(Clone, Copy)]
 pub enum Text {
     Whole,
     WholeAs,
