@@ -1,6 +1,7 @@
 //! Compares captures: what is captured and in which mode, what is refused, and what is left then.
 ghost use Rattle.bcder.specs.calls.Views.{Moved};
 
+use crate::takes::has_left;
 use anyhow::Error;
 use bcder::decode::{
     BytesSource, Constructed, ContentError, DecodeError, IntoSource, SliceSource, Source, walk,
@@ -16,7 +17,7 @@ use std::alloc::{AllocError, Global};
 use support::sip::Sip;
 
 /// A call on content, or on what `enter` entered.
-#[derive(Clone, Copy, Debug, PartialEq, Eq)]
+#[derive(Clone, Copy)]
 enum Call {
     One,
     All,
@@ -114,62 +115,43 @@ impl Step for CaptureStep {
     }
 }
 
-/// Skips the next value, if there is one.
-fn pass<S: Source>(cons: &mut Constructed<'_, S>) -> Result<(), DecodeError<S::Error>>
+/// Skips the next value, if there is one, in BER or not, and then refuses or not.
+#[tactic(auto, using(bcder::specs::laws::Moved::steps))]
+fn pass<S: Source>(cons: &mut Constructed<'_, S>, call: Call) -> Result<(), DecodeError<S::Error>>
     ensures { Moved S.stream cons }
 {
+    if matches!(call, Call::Ber | Call::BerRefuse) {
+        cons.set_mode(Mode::Ber);
+    }
     walk(cons)?;
+    if matches!(call, Call::Refuse | Call::BerRefuse) {
+        return Err(cons.content_err(ContentError::ExpectedInteger(OWN)));
+    }
     Ok(())
 }
 
-/// Skips the next value in BER.
+/// Does what the closure of a capture does. Drops what it captures, and the error of a value whose
+/// octets are left.
 #[tactic(auto, using(bcder::specs::laws::Moved::steps))]
-fn pass_ber<S: Source>(cons: &mut Constructed<'_, S>) -> Result<(), DecodeError<S::Error>>
-    ensures { Moved S.stream cons }
-{
-    cons.set_mode(Mode::Ber);
-    pass(cons)
-}
-
-/// Returns the error by which a closure refuses.
-fn refuse<S: Source>(cons: &Constructed<'_, S>) -> DecodeError<S::Error> {
-    cons.content_err(ContentError::ExpectedInteger(OWN))
-}
-
-/// Skips the next value, then refuses.
-#[tactic(auto, using(bcder::specs::laws::Moved::steps))]
-fn pass_and_refuse<S: Source>(
-    cons: &mut Constructed<'_, S>,
-    other: bool,
-) -> Result<(), DecodeError<S::Error>>
-    ensures { Moved S.stream cons }
-{
-    if other {
-        pass_ber(cons)?;
-    } else {
-        pass(cons)?;
-    }
-    Err(refuse(cons))
-}
-
-/// Takes a value, leaves its octets, and drops the error that this causes.
-#[tactic(auto, using(bcder::specs::laws::Moved::steps))]
-fn drop_refusal<S: Source>(cons: &mut Constructed<'_, S>)
-    ensures { Moved S.stream cons }
-{
-    let _ = cons.take_value(|_tag, _content| Ok(()));
-}
-
-/// Captures the next value, and drops what is captured.
-#[tactic(auto, using(bcder::specs::laws::Moved::steps))]
-fn capture_inside<S: Source>(
+fn inside<S: Source>(
     cons: &mut Constructed<'_, S>,
     alloc: Global,
+    call: Call,
 ) -> Result<(), DecodeError<S::Error>>
     ensures { Moved S.stream cons }
 {
-    cons.capture_one(alloc)?;
-    Ok(())
+    match call {
+        Call::Nothing => Ok(()),
+        Call::Nested => {
+            cons.capture_one(alloc)?;
+            Ok(())
+        }
+        Call::Drop => {
+            let _ = cons.take_value(|_tag, _content| Ok(()));
+            Ok(())
+        }
+        _ => pass(cons, call),
+    }
 }
 
 /// Makes a capture, and returns its result.
@@ -184,16 +166,7 @@ fn capture<S: Source>(
     match call {
         Call::One => cons.capture_one(alloc),
         Call::All => cons.capture_all(alloc),
-        Call::Walk => cons.capture(alloc, |inner| pass(inner)),
-        Call::Ber => cons.capture(alloc, |inner| pass_ber(inner)),
-        Call::BerRefuse => cons.capture(alloc, |inner| pass_and_refuse(inner, true)),
-        Call::Refuse => cons.capture(alloc, |inner| pass_and_refuse(inner, false)),
-        Call::Nested => cons.capture(alloc, |inner| capture_inside(inner, alloc)),
-        Call::Drop => cons.capture(alloc, |inner| {
-            drop_refusal(inner);
-            Ok(())
-        }),
-        _ => cons.capture(alloc, |_inner| Ok(())),
+        _ => cons.capture(alloc, |cons| inside(cons, alloc, call)),
     }
 }
 
@@ -228,7 +201,7 @@ fn captures<S: Source>(
         Ok(captured) => {
             step.answer == Answer::Taken
                 && captured.as_slice() == step.octets.as_slice()
-                && begins_at(&captured, alloc, step.start).is_ok_and(|begins| begins)
+                && matches!(begins_at(&captured, alloc, step.start), Ok(true))
                 && label_of(captured) == Some(step.label.unwrap_or(mode))
         }
         Err(error) => step.answer == error_kind(&error, Tag::END_OF_VALUE),
@@ -271,7 +244,7 @@ fn passes<S: Source>(cons: &mut Constructed<'_, S>, alloc: Global, step: &Captur
 }
 
 /// What was compared: captures, other steps, and what `decode` returns and leaves.
-#[derive(Clone, Copy, Debug, Default)]
+#[derive(Clone, Copy, Default)]
 pub struct Tallies {
     pub captures: Tally,
     pub others: Tally,
@@ -353,7 +326,7 @@ fn compare_outside<S: Source>(
     ensures { Moved S.stream cons }
 {
     for step in &row.outside {
-        if step.call == Call::Enter {
+        if matches!(step.call, Call::Enter) {
             let answer = enter(cons, alloc, row, mode, tallies);
             tallies.others.count(answer == step.answer);
         } else {
@@ -375,14 +348,14 @@ fn compare_over<S: Source>(
         Ok(())
     });
     let same = match decoded {
-        Ok(()) => {
-            let found = source.request(row.octets.len());
-            row.left
-                .is_ok_and(|left| found.is_ok_and(|found| found == left))
-        }
-        Err(error) => row
-            .left
-            .is_err_and(|answer| answer == error_kind(&error, Tag::END_OF_VALUE)),
+        Ok(()) => match row.left {
+            Ok(left) => has_left(source.request(row.octets.len()), left),
+            Err(_) => false,
+        },
+        Err(error) => match row.left {
+            Ok(_) => false,
+            Err(answer) => answer == error_kind(&error, Tag::END_OF_VALUE),
+        },
     };
     tallies.left.count(same);
 }

@@ -1,9 +1,10 @@
 //! Cuts values: no reader finds a value in a proper prefix of one.
-ghost use Rattle.bcder.specs.calls.Views.{Moved};
+ghost use Rattle.bcder.specs.calls.Views.{Moved, MovedContent, MovedOctets};
 
 use anyhow::Error;
 use bcder::decode::{
-    BytesSource, Constructed, Content, ContentError, DecodeError, SliceSource, Source, walk,
+    BytesSource, Constructed, Content, ContentError, DecodeError, Primitive, SliceSource, Source,
+    walk,
 };
 use bcder::string::{Ia5String, NumericString, PrintableString, Utf8String};
 use bcder::{BitString, Integer, Mode, OctetString, Oid, Tag, Unsigned};
@@ -11,10 +12,11 @@ use bytes::Bytes;
 use lines::fields::{modes_of, next, octets_of};
 use lines::tally::Tally;
 use std::alloc::{AllocError, Global};
+use support::calls::{Inside, Take, take_by};
 use support::sip::Sip;
 
 /// A reader of the next value.
-#[derive(Clone, Copy, Debug, PartialEq, Eq)]
+#[derive(Clone, Copy)]
 enum Reader {
     Walk,
     SkipOne,
@@ -22,11 +24,9 @@ enum Reader {
     SkipAll,
     CaptureOne,
     CaptureAll,
-    TakeValue,
-    TakePrimitive,
-    TakeConstructed,
-    TakeSequence,
-    TakeSet,
+
+    /// A call that takes a value by a closure, which skips what is inside.
+    Take(Take),
     TakeBool,
     TakeNull,
     TakeU8,
@@ -53,15 +53,15 @@ const OF_ALL: [Reader; 7] = [
     Reader::SkipAll,
     Reader::CaptureOne,
     Reader::CaptureAll,
-    Reader::TakeValue,
+    Reader::Take(Take::Value),
 ];
 
 /// The readers of values of one form or tag.
 const OF_SOME: [Reader; 20] = [
-    Reader::TakePrimitive,
-    Reader::TakeConstructed,
-    Reader::TakeSequence,
-    Reader::TakeSet,
+    Reader::Take(Take::Primitive),
+    Reader::Take(Take::Constructed),
+    Reader::Take(Take::Sequence),
+    Reader::Take(Take::Set),
     Reader::TakeBool,
     Reader::TakeNull,
     Reader::TakeU8,
@@ -97,24 +97,38 @@ fn pass<S: Source>(
     found.ok_or(cons.content_err(ContentError::from_static("nothing there")))
 }
 
-/// Takes the next value, whatever is inside.
-#[tactic(auto, using(bcder::specs::laws::Moved::steps))]
-fn take<S: Source>(
-    cons: &mut Constructed<'_, S>,
-    alloc: Global,
-    reader: Reader,
-) -> Result<(), DecodeError<S::Error>>
-    ensures { Moved S.stream cons }
-{
-    match reader {
-        Reader::TakePrimitive => cons.take_primitive(|_tag, octets| octets.skip_all()),
-        Reader::TakeConstructed => cons.take_constructed(|_tag, values| values.skip_all(alloc)),
-        Reader::TakeSequence => cons.take_sequence(|values| values.skip_all(alloc)),
-        Reader::TakeSet => cons.take_set(|values| values.skip_all(alloc)),
-        _ => cons.take_value(|_tag, content| match content {
-            Content::Primitive(octets) => octets.skip_all(),
-            Content::Constructed(values) => values.skip_all(alloc),
-        }),
+/// Skips what is inside a value.
+#[derive(Clone, Copy)]
+struct Whole(Global);
+
+impl Inside for Whole {
+    fn of_content<S: Source>(
+        &mut self,
+        tag: Tag,
+        content: &mut Content<'_, S>,
+    ) -> Result<u8, DecodeError<S::Error>> {
+        match content {
+            Content::Primitive(octets) => self.of_octets(tag, octets),
+            Content::Constructed(values) => self.of_values(tag, values),
+        }
+    }
+
+    fn of_octets<S: Source>(
+        &mut self,
+        _tag: Tag,
+        octets: &mut Primitive<'_, S>,
+    ) -> Result<u8, DecodeError<S::Error>> {
+        octets.skip_all()?;
+        Ok(0)
+    }
+
+    fn of_values<S: Source>(
+        &mut self,
+        _tag: Tag,
+        values: &mut Constructed<'_, S>,
+    ) -> Result<u8, DecodeError<S::Error>> {
+        values.skip_all(self.0)?;
+        Ok(0)
     }
 }
 
@@ -227,8 +241,10 @@ fn read<S: Source>(
             capture(cons, alloc, reader)?;
             Ok(())
         }
-        Reader::TakeBool | Reader::TakeNull | Reader::TakeU8 | Reader::TakeI64 | Reader::SkipU8If =>
-            take_typed(cons, reader),
+        Reader::Take(take) => {
+            take_by(cons, take, Tag::SEQUENCE, &mut Whole(alloc))?;
+            Ok(())
+        }
         Reader::Integer
         | Reader::Unsigned
         | Reader::Oid
@@ -240,7 +256,7 @@ fn read<S: Source>(
         | Reader::NumericString
         | Reader::PrintableString
         | Reader::Ia5String => take_string(cons, alloc, reader),
-        _ => take(cons, alloc, reader),
+        _ => take_typed(cons, reader),
     }
 }
 

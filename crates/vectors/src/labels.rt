@@ -12,7 +12,7 @@ use std::alloc::Global;
 use support::sip::Sip;
 
 /// The content whose mode is set, of an INTEGER in a SEQUENCE in a SEQUENCE.
-#[derive(Clone, Copy, Debug, PartialEq, Eq)]
+#[derive(Clone, Copy, PartialEq, Eq)]
 enum Place {
     /// The content of the capture itself.
     Around,
@@ -36,7 +36,7 @@ const PLACES: [(&str, Place); 4] = [
 ];
 
 /// The modes that are set at a place, one after the other.
-#[derive(Clone, Copy, Debug)]
+#[derive(Clone, Copy)]
 struct Change {
     place: Place,
     first: Mode,
@@ -136,8 +136,10 @@ fn is_labelled<S: Source>(
 /// Returns whether all octets are captured with this mode over a source, and the content keeps its
 /// own.
 fn is_labelled_over<S: Source>(source: &mut S, alloc: Global, row: &Row, mode: Mode) -> bool {
-    mode.decode_lent(source, |cons| Ok(is_labelled(cons, alloc, row, mode)))
-        .is_ok_and(|same| same)
+    matches!(
+        mode.decode_lent(source, |cons| Ok(is_labelled(cons, alloc, row, mode))),
+        Ok(true)
+    )
 }
 
 fn row_of(alloc: Global, line: &str) -> Result<Row, Error> {

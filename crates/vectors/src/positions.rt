@@ -3,20 +3,21 @@ ghost use Rattle.bcder.specs.calls.Views.{Moved, MovedContent, MovedOctets};
 
 use crate::takes::{use_content, use_octets};
 use anyhow::Error;
-use bcder::Mode;
 use bcder::decode::{
     BytesSource, Constructed, Content, ContentError, DecodeError, Pos, Primitive, SliceSource,
     Source,
 };
+use bcder::{Mode, Tag};
 use bytes::Bytes;
 use lines::calls::Use;
 use lines::fields::{find, next, number, octets_of};
 use lines::tally::Tally;
 use std::alloc::{AllocError, Global};
+use support::calls::{Inside, Take, take_by};
 use support::sip::Sip;
 
 /// The content whose `content_err` is called.
-#[derive(Clone, Copy, Debug, PartialEq, Eq)]
+#[derive(Clone, Copy)]
 enum Whose {
     /// The values at top level.
     Outside,
@@ -70,41 +71,42 @@ fn take_some<S: Source>(
     Ok(())
 }
 
-/// Refuses octets, all of which are skipped first if `inside` isn't 0.
-fn refuse_octets<S: Source>(
-    octets: &mut Primitive<'_, S>,
-    inside: usize,
-) -> Result<(), DecodeError<S::Error>>
-    ensures { MovedOctets S.stream octets }
-{
-    if inside > 0 {
-        use_octets(octets, true, Use::Pass)?;
-    }
-    Err(Primitive::content_err(octets, ContentError::from_static("bad")))
-}
+/// Refuses what is inside a value, after taking this number of the values there. All octets are
+/// skipped first, or all content of either form, if it isn't 0.
+#[derive(Clone, Copy)]
+struct Refusing(usize);
 
-/// Refuses values, after taking `inside` of them.
-fn refuse_values<S: Source>(
-    values: &mut Constructed<'_, S>,
-    inside: usize,
-) -> Result<(), DecodeError<S::Error>>
-    ensures { Moved S.stream values }
-{
-    take_some(values, inside)?;
-    Err(values.content_err(ContentError::from_static("bad")))
-}
-
-/// Refuses content, all of which is skipped first if `inside` isn't 0.
-fn refuse_content<S: Source>(
-    content: &mut Content<'_, S>,
-    inside: usize,
-) -> Result<(), DecodeError<S::Error>>
-    ensures { MovedContent S.stream content }
-{
-    if inside > 0 {
-        use_content(content, true, Use::Pass)?;
+impl Inside for Refusing {
+    fn of_content<S: Source>(
+        &mut self,
+        _tag: Tag,
+        content: &mut Content<'_, S>,
+    ) -> Result<u8, DecodeError<S::Error>> {
+        if self.0 > 0 {
+            use_content(content, true, Use::Pass)?;
+        }
+        Err(content.content_err(ContentError::from_static("bad")))
     }
-    Err(content.content_err(ContentError::from_static("bad")))
+
+    fn of_octets<S: Source>(
+        &mut self,
+        _tag: Tag,
+        octets: &mut Primitive<'_, S>,
+    ) -> Result<u8, DecodeError<S::Error>> {
+        if self.0 > 0 {
+            use_octets(octets, true, Use::Pass)?;
+        }
+        Err(Primitive::content_err(octets, ContentError::from_static("bad")))
+    }
+
+    fn of_values<S: Source>(
+        &mut self,
+        _tag: Tag,
+        values: &mut Constructed<'_, S>,
+    ) -> Result<u8, DecodeError<S::Error>> {
+        take_some(values, self.0)?;
+        Err(values.content_err(ContentError::from_static("bad")))
+    }
 }
 
 /// Refuses the content of a row with the text `bad`.
@@ -115,12 +117,14 @@ fn refuse<S: Source>(
 ) -> Result<(), DecodeError<S::Error>>
     ensures { Moved S.stream cons }
 {
-    match whose {
-        Whose::Outside => Err(cons.content_err(ContentError::from_static("bad"))),
-        Whose::Content => cons.take_value(|_, content| refuse_content(content, inside)),
-        Whose::Primitive => cons.take_primitive(|_, octets| refuse_octets(octets, inside)),
-        Whose::Constructed => cons.take_constructed(|_, values| refuse_values(values, inside)),
-    }
+    let take = match whose {
+        Whose::Outside => return Err(cons.content_err(ContentError::from_static("bad"))),
+        Whose::Content => Take::Value,
+        Whose::Primitive => Take::Primitive,
+        Whose::Constructed => Take::Constructed,
+    };
+    take_by(cons, take, Tag::SEQUENCE, &mut Refusing(inside))?;
+    Ok(())
 }
 
 /// Takes values at top level, and refuses.

@@ -1,6 +1,7 @@
 //! Compares skips: the headings that a closure gets, and the answer.
 ghost use Rattle.bcder.specs.calls.Views.{Moved};
 
+use crate::takes::has_left;
 use crate::walks::{self, compare_ways, compare_whole};
 use anyhow::Error;
 use bcder::decode::{BytesSource, Constructed, ContentError, DecodeError, SliceSource, Source};
@@ -13,7 +14,7 @@ use std::alloc::Global;
 use support::sip::Sip;
 
 /// What was compared: the headings that a closure gets, and what the other readers skip.
-#[derive(Clone, Copy, Debug, Default)]
+#[derive(Clone, Copy, Default)]
 pub struct Tallies {
     pub told: Tally,
     pub others: walks::Tallies,
@@ -79,8 +80,7 @@ fn tells<S: Source>(
     let mut text = String::new(alloc);
     let refused = row.refused;
     let outcome = mode.decode_lent(source, |cons| told(cons, alloc, refused, wanted, &mut text));
-    let left = source.request(row.octets.len());
-    let is_left = left.is_ok_and(|left| left == row.left);
+    let is_left = has_left(source.request(row.octets.len()), row.left);
     let same = match outcome {
         Ok(Some(())) => row.answer == Answer::Taken && is_left,
         Ok(None) => row.answer == Answer::Absent && is_left,

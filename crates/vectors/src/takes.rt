@@ -13,6 +13,7 @@ use lines::calls::{Answer, CALLS, Call, OWN, TakeStep, Use, error_kind};
 use lines::row::{Row, row_of};
 use lines::tally::{Differing, Tally};
 use std::alloc::{AllocError, Global};
+use support::calls::{Inside, Take, take_by};
 use support::sip::Sip;
 
 /// Skips the values, two at most.
@@ -89,7 +90,7 @@ pub fn use_content<S: Source>(
 ) -> Result<(), DecodeError<S::Error>>
     ensures { MovedContent S.stream content }
 {
-    if with == Use::Ask {
+    if matches!(with, Use::Ask) {
         return ask(content);
     }
     match content {
@@ -98,9 +99,9 @@ pub fn use_content<S: Source>(
     }
 }
 
-fn of_result<T: Drop, E: Drop>(outcome: Result<T, DecodeError<E>>, tag: Tag) -> Answer {
+fn of_result<E: Drop>(outcome: Result<(), DecodeError<E>>, tag: Tag) -> Answer {
     match outcome {
-        Ok(_) => Answer::Taken,
+        Ok(()) => Answer::Taken,
         Err(error) => error_kind(&error, tag),
     }
 }
@@ -113,101 +114,40 @@ fn of_option<T: Drop, E: Drop>(outcome: Result<Option<T>, DecodeError<E>>, tag: 
     }
 }
 
-/// Makes a call that takes a value of either form.
-#[tactic(auto, using(bcder::specs::laws::Moved::steps))]
-fn take_any<S: Source>(cons: &mut Constructed<'_, S>, step: TakeStep) -> Answer
-    ensures { Moved S.stream cons }
-{
-    let TakeStep { tag, with, .. } = step;
-    match step.call {
-        Call::Value => of_result(
-            cons.take_value(|found, content| use_content(content, found == tag, with)),
-            tag,
-        ),
-        Call::ValueIf => of_result(
-            cons.take_value_if(tag, |content| use_content(content, true, with)),
-            tag,
-        ),
-        Call::OptValueIf => of_option(
-            cons.take_opt_value_if(tag, |content| use_content(content, true, with)),
-            tag,
-        ),
-        _ => of_option(
-            cons.take_opt_value(|found, content| use_content(content, found == tag, with)),
-            tag,
-        ),
-    }
+/// What the closure of a step does with the content that it gets.
+#[derive(Clone, Copy)]
+struct Used {
+    /// The tag that the closure should get.
+    tag: Tag,
+    with: Use,
 }
 
-/// Makes a call that takes a primitive value.
-fn take_octets<S: Source>(cons: &mut Constructed<'_, S>, step: TakeStep) -> Answer
-    ensures { Moved S.stream cons }
-{
-    let TakeStep { tag, with, .. } = step;
-    match step.call {
-        Call::Primitive => of_result(
-            cons.take_primitive(|found, inner| use_octets(inner, found == tag, with)),
-            tag,
-        ),
-        Call::PrimitiveIf => of_result(
-            cons.take_primitive_if(tag, |inner| use_octets(inner, true, with)),
-            tag,
-        ),
-        Call::OptPrimitiveIf => of_option(
-            cons.take_opt_primitive_if(tag, |inner| use_octets(inner, true, with)),
-            tag,
-        ),
-        _ => of_option(
-            cons.take_opt_primitive(|found, inner| use_octets(inner, found == tag, with)),
-            tag,
-        ),
+impl Inside for Used {
+    fn of_content<S: Source>(
+        &mut self,
+        tag: Tag,
+        content: &mut Content<'_, S>,
+    ) -> Result<u8, DecodeError<S::Error>> {
+        use_content(content, tag == self.tag, self.with)?;
+        Ok(0)
     }
-}
 
-/// Makes a call that takes a constructed value.
-fn take_values<S: Source>(cons: &mut Constructed<'_, S>, step: TakeStep) -> Answer
-    ensures { Moved S.stream cons }
-{
-    let TakeStep { tag, with, .. } = step;
-    match step.call {
-        Call::Constructed => of_result(
-            cons.take_constructed(|found, inner| use_values(inner, found == tag, with)),
-            tag,
-        ),
-        Call::ConstructedIf => of_result(
-            cons.take_constructed_if(tag, |inner| use_values(inner, true, with)),
-            tag,
-        ),
-        Call::OptConstructedIf => of_option(
-            cons.take_opt_constructed_if(tag, |inner| use_values(inner, true, with)),
-            tag,
-        ),
-        _ => of_option(
-            cons.take_opt_constructed(|found, inner| use_values(inner, found == tag, with)),
-            tag,
-        ),
+    fn of_octets<S: Source>(
+        &mut self,
+        tag: Tag,
+        octets: &mut Primitive<'_, S>,
+    ) -> Result<u8, DecodeError<S::Error>> {
+        use_octets(octets, tag == self.tag, self.with)?;
+        Ok(0)
     }
-}
 
-/// Makes a call that takes a SEQUENCE or a SET.
-fn take_list<S: Source>(cons: &mut Constructed<'_, S>, step: TakeStep) -> Answer
-    ensures { Moved S.stream cons }
-{
-    let TakeStep { tag, with, .. } = step;
-    match step.call {
-        Call::Sequence => of_result(
-            cons.take_sequence(|inner| use_values(inner, true, with)),
-            tag,
-        ),
-        Call::OptSequence => of_option(
-            cons.take_opt_sequence(|inner| use_values(inner, true, with)),
-            tag,
-        ),
-        Call::Set => of_result(cons.take_set(|inner| use_values(inner, true, with)), tag),
-        _ => of_option(
-            cons.take_opt_set(|inner| use_values(inner, true, with)),
-            tag,
-        ),
+    fn of_values<S: Source>(
+        &mut self,
+        tag: Tag,
+        values: &mut Constructed<'_, S>,
+    ) -> Result<u8, DecodeError<S::Error>> {
+        use_values(values, tag == self.tag, self.with)?;
+        Ok(0)
     }
 }
 
@@ -242,6 +182,17 @@ fn take_known<S: Source>(
     }
 }
 
+/// Returns the answer that is a number, if there is one.
+fn number<T>(found: Option<T>) -> Option<Answer>
+where
+    u64: From<T>,
+{
+    match found {
+        Some(found) => Some(Answer::Number(u64::from(found))),
+        None => None,
+    }
+}
+
 /// Makes a call that takes an integer.
 #[tactic(auto, using(bcder::specs::laws::Moved::steps))]
 fn take_number<S: Source>(
@@ -250,17 +201,16 @@ fn take_number<S: Source>(
 ) -> Result<Option<Answer>, DecodeError<S::Error>>
     ensures { Moved S.stream cons }
 {
-    let number = match call {
-        Call::U8 => Some(u64::from(cons.take_u8()?)),
-        Call::OptU8 => cons.take_opt_u8()?.map(|number| u64::from(number)),
-        Call::U16 => Some(u64::from(cons.take_u16()?)),
-        Call::OptU16 => cons.take_opt_u16()?.map(|number| u64::from(number)),
-        Call::U32 => Some(u64::from(cons.take_u32()?)),
-        Call::OptU32 => cons.take_opt_u32()?.map(|number| u64::from(number)),
-        Call::U64 => Some(cons.take_u64()?),
-        _ => cons.take_opt_u64()?,
-    };
-    Ok(number.map(|number| Answer::Number(number)))
+    match call {
+        Call::U8 => Ok(number(Some(cons.take_u8()?))),
+        Call::OptU8 => Ok(number(cons.take_opt_u8()?)),
+        Call::U16 => Ok(number(Some(cons.take_u16()?))),
+        Call::OptU16 => Ok(number(cons.take_opt_u16()?)),
+        Call::U32 => Ok(number(Some(cons.take_u32()?))),
+        Call::OptU32 => Ok(number(cons.take_opt_u32()?)),
+        Call::U64 => Ok(number(Some(cons.take_u64()?))),
+        _ => Ok(number(cons.take_opt_u64()?)),
+    }
 }
 
 /// Returns the answer of a call that took a value with this tag, or skipped this number.
@@ -279,20 +229,49 @@ fn of_known<E: Drop>(
     }
 }
 
+/// Returns the call that takes a value by a closure, if it is one.
+fn take_of(call: Call) -> Option<Take> {
+    match call {
+        Call::Value => Some(Take::Value),
+        Call::OptValue => Some(Take::OptValue),
+        Call::ValueIf => Some(Take::ValueIf),
+        Call::OptValueIf => Some(Take::OptValueIf),
+        Call::Primitive => Some(Take::Primitive),
+        Call::OptPrimitive => Some(Take::OptPrimitive),
+        Call::PrimitiveIf => Some(Take::PrimitiveIf),
+        Call::OptPrimitiveIf => Some(Take::OptPrimitiveIf),
+        Call::Constructed => Some(Take::Constructed),
+        Call::OptConstructed => Some(Take::OptConstructed),
+        Call::ConstructedIf => Some(Take::ConstructedIf),
+        Call::OptConstructedIf => Some(Take::OptConstructedIf),
+        Call::Sequence => Some(Take::Sequence),
+        Call::OptSequence => Some(Take::OptSequence),
+        Call::Set => Some(Take::Set),
+        Call::OptSet => Some(Take::OptSet),
+        _ => None,
+    }
+}
+
+/// Makes a call that takes a value by a closure, and returns its answer.
+fn take<S: Source>(cons: &mut Constructed<'_, S>, take: Take, step: TakeStep) -> Answer
+    ensures { Moved S.stream cons }
+{
+    let mut used = Used {
+        tag: step.tag,
+        with: step.with,
+    };
+    of_option(take_by(cons, take, step.tag, &mut used), step.tag)
+}
+
 /// Makes a call, and returns its answer.
 #[tactic(auto, using(bcder::specs::laws::Moved::steps))]
 pub fn perform<S: Source>(cons: &mut Constructed<'_, S>, step: TakeStep) -> Answer
     ensures { Moved S.stream cons }
 {
+    if let Some(call) = take_of(step.call) {
+        return take(cons, call, step);
+    }
     match step.call {
-        Call::Value | Call::OptValue | Call::ValueIf | Call::OptValueIf => take_any(cons, step),
-        Call::Primitive | Call::OptPrimitive | Call::PrimitiveIf | Call::OptPrimitiveIf => {
-            take_octets(cons, step)
-        }
-        Call::Constructed | Call::OptConstructed | Call::ConstructedIf | Call::OptConstructedIf => {
-            take_values(cons, step)
-        }
-        Call::Sequence | Call::OptSequence | Call::Set | Call::OptSet => take_list(cons, step),
         Call::Bool
         | Call::OptBool
         | Call::Null
@@ -424,6 +403,14 @@ fn compare_outside<S: Source>(
     counts.modes.count(cons.mode() == mode);
 }
 
+/// Returns whether a source has this number of octets left, by what it found of all.
+pub fn has_left<E: Drop>(found: Result<usize, E>, left: usize) -> bool {
+    match found {
+        Ok(found) => found == left,
+        Err(_) => false,
+    }
+}
+
 /// Decodes the octets of a row from a source over them.
 fn compare_over<S: Source>(source: &mut S, row: &Row<TakeStep>, mode: Mode, counts: &mut Counts) {
     let decoded = mode.decode_lent(source, |cons| {
@@ -435,7 +422,7 @@ fn compare_over<S: Source>(source: &mut S, row: &Row<TakeStep>, mode: Mode, coun
         Ok(left) => {
             counts.count(Call::Decode, answer == Answer::Taken);
             let found = source.request(row.octets.len());
-            counts.left.count(found.is_ok_and(|found| found == left));
+            counts.left.count(has_left(found, left));
         }
         Err(refusal) => {
             counts.count(Call::Decode, answer == refusal);

@@ -1,6 +1,7 @@
 //! Compares the calls that skip the next value, and the plain reader.
 ghost use Rattle.bcder.specs.calls.Views.{Moved};
 
+use crate::takes::has_left;
 use anyhow::Error;
 use bcder::Mode;
 use bcder::decode::{BytesSource, Constructed, DecodeError, SliceSource, Source, walk};
@@ -11,7 +12,7 @@ use std::alloc::{AllocError, Global};
 use support::sip::Sip;
 
 /// A call that skips the next value.
-#[derive(Clone, Copy, Debug, PartialEq, Eq)]
+#[derive(Clone, Copy)]
 enum Way {
     Walk,
     SkipOne,
@@ -22,7 +23,7 @@ enum Way {
 }
 
 /// What was compared of each reader.
-#[derive(Clone, Copy, Debug, Default)]
+#[derive(Clone, Copy, Default)]
 pub struct Tallies {
     pub plain: Tally,
     pub walk: Tally,
@@ -87,11 +88,13 @@ fn is_passed<S: Source>(
 ) -> bool {
     match mode.decode_lent(source, |cons| passes(cons, alloc, way, size)) {
         Ok(passed) => {
-            let left = source.request(count);
-            passed == size.is_some()
-                && left.is_ok_and(|left| count.checked_sub(left) == Some(size.unwrap_or(0)))
+            let found = source.request(count);
+            match count.checked_sub(size.unwrap_or(0)) {
+                Some(left) => passed == size.is_some() && has_left(found, left),
+                None => false,
+            }
         }
-        Err(_) => size.is_none() && way != Way::CaptureOne,
+        Err(_) => size.is_none() && !matches!(way, Way::CaptureOne),
     }
 }
 
@@ -191,7 +194,7 @@ pub fn compare_fronts(alloc: Global, line: &str, tallies: &mut Tallies) -> Resul
 }
 
 /// What was compared with the plain reader on short lists.
-#[derive(Clone, Copy, Debug, Default)]
+#[derive(Clone, Copy, Default)]
 pub struct ListTallies {
     pub walk: Tally,
     pub skip_one: Tally,
