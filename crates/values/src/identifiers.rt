@@ -11,7 +11,7 @@ use std::alloc::Global;
 use support::sip::Sip;
 
 /// What was compared.
-#[derive(Clone, Copy, Debug, Default)]
+#[derive(Clone, Copy, Default)]
 pub struct Tallies {
     /// Contents octets that were read, or refused.
     pub read: Tally,
@@ -106,7 +106,7 @@ pub fn compare_text(alloc: Global, line: &str, tallies: &mut Tallies) -> Result<
 fn is_component(octets: &[u8], place: usize, number: &str) -> bool {
     match Oid(octets).iter().nth(place) {
         Some(component) => match component.to_u32() {
-            Some(found) => number.parse::<u32>().is_ok_and(|wanted| wanted == found),
+            Some(found) => matches!(number.parse::<u32>(), Ok(wanted) if wanted == found),
             None => number == "-",
         },
         None => false,

@@ -14,7 +14,7 @@ use std::convert::TryFrom;
 use support::sip::Sip;
 
 /// What was compared.
-#[derive(Clone, Copy, Debug, Default)]
+#[derive(Clone, Copy, Default)]
 pub struct Tallies {
     /// Numbers read.
     pub readers: Readers,
@@ -158,12 +158,14 @@ pub fn compare_made_unsigned(
         }
         field => {
             let wanted = octets_of(alloc, field)?;
+            let (copied, shared) = (copied?, shared?);
             tallies
                 .unsigned
-                .count(copied?.as_slice() == wanted.as_slice());
+                .count(copied.as_slice() == wanted.as_slice());
             tallies
                 .unsigned
-                .count(shared?.as_slice() == wanted.as_slice());
+                .count(shared.as_slice() == wanted.as_slice());
+            tallies.unsigned.count(copied == shared);
         }
     }
     Ok(())

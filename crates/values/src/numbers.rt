@@ -1,6 +1,8 @@
 //! Compares the number that contents octets are, through every reader of integers.
+ghost use Rattle.bcder.specs.calls.Views.{Moved, MovedContent, MovedOctets};
+
 use anyhow::Error;
-use bcder::decode::{Primitive, SliceSource};
+use bcder::decode::{Constructed, Content, DecodeError, Primitive, SliceSource, Source};
 use bcder::{Integer, Mode, Unsigned};
 use bytes::Bytes;
 use lines::tally::{Differing, Tally, differ_in};
@@ -8,7 +10,7 @@ use std::alloc::Global;
 use std::convert::TryFrom;
 
 /// What was compared, by the kind of reader.
-#[derive(Clone, Copy, Debug, Default)]
+#[derive(Clone, Copy, Default)]
 pub struct Readers {
     /// `Primitive::to_u8` to `to_u128`, `to_i8` to `to_i128`.
     pub octets: Tally,
@@ -54,20 +56,76 @@ impl Differing for Readers {
     }
 }
 
+/// One of Rust's types of integers.
+#[derive(Clone, Copy)]
+enum Width {
+    U8,
+    U16,
+    U32,
+    U64,
+    U128,
+    I8,
+    I16,
+    I32,
+    I64,
+    I128,
+}
+
+/// The types, in the order of [`Numbers`].
+const WIDTHS: [Width; 10] = [
+    Width::U8,
+    Width::U16,
+    Width::U32,
+    Width::U64,
+    Width::U128,
+    Width::I8,
+    Width::I16,
+    Width::I32,
+    Width::I64,
+    Width::I128,
+];
+
+/// The types that calls on content return.
+const CONTENT: [Width; 4] = [Width::U8, Width::U16, Width::U32, Width::U64];
+
+/// A number of one of the types.
+#[derive(Clone, Copy, PartialEq, Eq)]
+enum Number {
+    Unsigned(u128),
+    Signed(i128),
+}
+
+/// Returns a number of an unsigned type, if there is one.
+fn unsigned<T: Drop, E: Drop>(number: Result<T, E>) -> Option<Number>
+where
+    u128: From<T>,
+{
+    match number {
+        Ok(number) => Some(Number::Unsigned(u128::from(number))),
+        Err(_) => None,
+    }
+}
+
+/// Returns a number of a signed type, if there is one.
+fn signed<T: Drop, E: Drop>(number: Result<T, E>) -> Option<Number>
+where
+    i128: From<T>,
+{
+    match number {
+        Ok(number) => Some(Number::Signed(i128::from(number))),
+        Err(_) => None,
+    }
+}
+
 /// The number that contents octets are, in each of Rust's types. It is `None` if the type can't
 /// hold the number, or if the octets aren't those of an integer.
-#[derive(Clone, Copy, Debug)]
+#[derive(Clone, Copy)]
 pub struct Numbers {
-    as_u8: Option<u8>,
-    as_u16: Option<u16>,
-    as_u32: Option<u32>,
-    as_u64: Option<u64>,
-    as_u128: Option<u128>,
-    as_i8: Option<i8>,
-    as_i16: Option<i16>,
-    as_i32: Option<i32>,
-    as_i64: Option<i64>,
-    as_i128: Option<i128>,
+    /// The number in each of [`WIDTHS`].
+    numbers: [Option<Number>; 10],
+
+    /// The number as a `u8`.
+    octet: Option<u8>,
 
     /// Whether the octets are those of an integer.
     is_integer: bool,
@@ -85,16 +143,19 @@ impl Numbers {
     /// Returns the numbers that std reads in a text, if there are any.
     pub fn of_text(text: &str) -> Numbers {
         Numbers {
-            as_u8: text.parse::<u8>().ok(),
-            as_u16: text.parse::<u16>().ok(),
-            as_u32: text.parse::<u32>().ok(),
-            as_u64: text.parse::<u64>().ok(),
-            as_u128: text.parse::<u128>().ok(),
-            as_i8: text.parse::<i8>().ok(),
-            as_i16: text.parse::<i16>().ok(),
-            as_i32: text.parse::<i32>().ok(),
-            as_i64: text.parse::<i64>().ok(),
-            as_i128: text.parse::<i128>().ok(),
+            numbers: [
+                unsigned(text.parse::<u8>()),
+                unsigned(text.parse::<u16>()),
+                unsigned(text.parse::<u32>()),
+                unsigned(text.parse::<u64>()),
+                unsigned(text.parse::<u128>()),
+                signed(text.parse::<i8>()),
+                signed(text.parse::<i16>()),
+                signed(text.parse::<i32>()),
+                signed(text.parse::<i64>()),
+                signed(text.parse::<i128>()),
+            ],
+            octet: text.parse::<u8>().ok(),
             is_integer: text != "-",
             is_unsigned: !text.starts_with('-'),
         }
@@ -103,16 +164,19 @@ impl Numbers {
     /// Returns a number in each type, as std converts it.
     fn of(number: i128) -> Numbers {
         Numbers {
-            as_u8: u8::try_from(number).ok(),
-            as_u16: u16::try_from(number).ok(),
-            as_u32: u32::try_from(number).ok(),
-            as_u64: u64::try_from(number).ok(),
-            as_u128: u128::try_from(number).ok(),
-            as_i8: i8::try_from(number).ok(),
-            as_i16: i16::try_from(number).ok(),
-            as_i32: i32::try_from(number).ok(),
-            as_i64: i64::try_from(number).ok(),
-            as_i128: Some(number),
+            numbers: [
+                unsigned(u8::try_from(number)),
+                unsigned(u16::try_from(number)),
+                unsigned(u32::try_from(number)),
+                unsigned(u64::try_from(number)),
+                unsigned(u128::try_from(number)),
+                signed(i8::try_from(number)),
+                signed(i16::try_from(number)),
+                signed(i32::try_from(number)),
+                signed(i64::try_from(number)),
+                Some(Number::Signed(number)),
+            ],
+            octet: u8::try_from(number).ok(),
             is_integer: true,
             is_unsigned: number >= 0,
         }
@@ -154,123 +218,238 @@ pub fn count<T: PartialEq + Drop>(tally: &mut Tally, read: Option<T>, wanted: Op
     tally.count(read == wanted);
 }
 
-fn compare_unsigned(octets: &[u8], mode: Mode, numbers: &Numbers, tally: &mut Tally) {
-    let read = found(Primitive::decode_slice(octets, mode, |p| p.to_u8()));
-    count(tally, read, numbers.as_u8);
-    let read = found(Primitive::decode_slice(octets, mode, |p| p.to_u16()));
-    count(tally, read, numbers.as_u16);
-    let read = found(Primitive::decode_slice(octets, mode, |p| p.to_u32()));
-    count(tally, read, numbers.as_u32);
-    let read = found(Primitive::decode_slice(octets, mode, |p| p.to_u64()));
-    count(tally, read, numbers.as_u64);
-    let read = found(Primitive::decode_slice(octets, mode, |p| p.to_u128()));
-    count(tally, read, numbers.as_u128);
+/// Reads an unsigned number, by a call of `Primitive`.
+fn read_unsigned<S: Source>(
+    octets: &mut Primitive<'_, S>,
+    width: Width,
+) -> Result<u128, DecodeError<S::Error>>
+    ensures { MovedOctets S.stream octets }
+{
+    match width {
+        Width::U8 => Ok(u128::from(octets.to_u8()?)),
+        Width::U16 => Ok(u128::from(octets.to_u16()?)),
+        Width::U32 => Ok(u128::from(octets.to_u32()?)),
+        Width::U64 => Ok(u128::from(octets.to_u64()?)),
+        _ => octets.to_u128(),
+    }
 }
 
-fn compare_signed(octets: &[u8], mode: Mode, numbers: &Numbers, tally: &mut Tally) {
-    let read = found(Primitive::decode_slice(octets, mode, |p| p.to_i8()));
-    count(tally, read, numbers.as_i8);
-    let read = found(Primitive::decode_slice(octets, mode, |p| p.to_i16()));
-    count(tally, read, numbers.as_i16);
-    let read = found(Primitive::decode_slice(octets, mode, |p| p.to_i32()));
-    count(tally, read, numbers.as_i32);
-    let read = found(Primitive::decode_slice(octets, mode, |p| p.to_i64()));
-    count(tally, read, numbers.as_i64);
-    let read = found(Primitive::decode_slice(octets, mode, |p| p.to_i128()));
-    count(tally, read, numbers.as_i128);
+/// Reads a signed number, by a call of `Primitive`.
+fn read_signed<S: Source>(
+    octets: &mut Primitive<'_, S>,
+    width: Width,
+) -> Result<i128, DecodeError<S::Error>>
+    ensures { MovedOctets S.stream octets }
+{
+    match width {
+        Width::I8 => Ok(i128::from(octets.to_i8()?)),
+        Width::I16 => Ok(i128::from(octets.to_i16()?)),
+        Width::I32 => Ok(i128::from(octets.to_i32()?)),
+        Width::I64 => Ok(i128::from(octets.to_i64()?)),
+        _ => octets.to_i128(),
+    }
 }
 
-/// Compares the calls of `Unsigned` and `Integer`.
-fn compare_from_unsigned(octets: &[u8], mode: Mode, numbers: &Numbers, tally: &mut Tally) {
-    let read = found(Primitive::decode_slice(octets, mode, |p| Unsigned::u8_from_primitive(p)));
-    count(tally, read, numbers.as_u8);
-    let read = found(Primitive::decode_slice(octets, mode, |p| Unsigned::u16_from_primitive(p)));
-    count(tally, read, numbers.as_u16);
-    let read = found(Primitive::decode_slice(octets, mode, |p| Unsigned::u32_from_primitive(p)));
-    count(tally, read, numbers.as_u32);
-    let read = found(Primitive::decode_slice(octets, mode, |p| Unsigned::u64_from_primitive(p)));
-    count(tally, read, numbers.as_u64);
-    let read = found(Primitive::decode_slice(octets, mode, |p| Unsigned::u128_from_primitive(p)));
-    count(tally, read, numbers.as_u128);
+/// Reads an unsigned number, by a call of `Unsigned`.
+fn of_unsigned<S: Source>(
+    octets: &mut Primitive<'_, S>,
+    width: Width,
+) -> Result<u128, DecodeError<S::Error>>
+    ensures { MovedOctets S.stream octets }
+{
+    match width {
+        Width::U8 => Ok(u128::from(Unsigned::u8_from_primitive(octets)?)),
+        Width::U16 => Ok(u128::from(Unsigned::u16_from_primitive(octets)?)),
+        Width::U32 => Ok(u128::from(Unsigned::u32_from_primitive(octets)?)),
+        Width::U64 => Ok(u128::from(Unsigned::u64_from_primitive(octets)?)),
+        _ => Unsigned::u128_from_primitive(octets),
+    }
 }
 
-fn compare_from_signed(octets: &[u8], mode: Mode, numbers: &Numbers, tally: &mut Tally) {
-    let read = found(Primitive::decode_slice(octets, mode, |p| Integer::i8_from_primitive(p)));
-    count(tally, read, numbers.as_i8);
-    let read = found(Primitive::decode_slice(octets, mode, |p| Integer::i16_from_primitive(p)));
-    count(tally, read, numbers.as_i16);
-    let read = found(Primitive::decode_slice(octets, mode, |p| Integer::i32_from_primitive(p)));
-    count(tally, read, numbers.as_i32);
-    let read = found(Primitive::decode_slice(octets, mode, |p| Integer::i64_from_primitive(p)));
-    count(tally, read, numbers.as_i64);
-    let read = found(Primitive::decode_slice(octets, mode, |p| Integer::i128_from_primitive(p)));
-    count(tally, read, numbers.as_i128);
+/// Reads a signed number, by a call of `Integer`.
+fn of_integer<S: Source>(
+    octets: &mut Primitive<'_, S>,
+    width: Width,
+) -> Result<i128, DecodeError<S::Error>>
+    ensures { MovedOctets S.stream octets }
+{
+    match width {
+        Width::I8 => Ok(i128::from(Integer::i8_from_primitive(octets)?)),
+        Width::I16 => Ok(i128::from(Integer::i16_from_primitive(octets)?)),
+        Width::I32 => Ok(i128::from(Integer::i32_from_primitive(octets)?)),
+        Width::I64 => Ok(i128::from(Integer::i64_from_primitive(octets)?)),
+        _ => Integer::i128_from_primitive(octets),
+    }
 }
 
-/// Compares the calls of `Content`, on the content of a value.
-fn compare_content(value: &[u8], mode: Mode, numbers: &Numbers, tally: &mut Tally) {
+/// Reads a number of a type, by a call of `Primitive`.
+fn of_octets<S: Source>(
+    octets: &mut Primitive<'_, S>,
+    width: Width,
+) -> Result<Number, DecodeError<S::Error>>
+    ensures { MovedOctets S.stream octets }
+{
+    match width {
+        Width::U8 | Width::U16 | Width::U32 | Width::U64 | Width::U128 => {
+            Ok(Number::Unsigned(read_unsigned(octets, width)?))
+        }
+        _ => Ok(Number::Signed(read_signed(octets, width)?)),
+    }
+}
+
+/// Reads a number of a type, by a call of `Unsigned` or `Integer`.
+fn of_type<S: Source>(
+    octets: &mut Primitive<'_, S>,
+    width: Width,
+) -> Result<Number, DecodeError<S::Error>>
+    ensures { MovedOctets S.stream octets }
+{
+    match width {
+        Width::U8 | Width::U16 | Width::U32 | Width::U64 | Width::U128 => {
+            Ok(Number::Unsigned(of_unsigned(octets, width)?))
+        }
+        _ => Ok(Number::Signed(of_integer(octets, width)?)),
+    }
+}
+
+/// Compares the calls on octets, for each type.
+fn compare_octets(octets: &[u8], mode: Mode, numbers: &Numbers, readers: &mut Readers) {
+    for (width, wanted) in WIDTHS.iter().zip(numbers.numbers) {
+        let width = *width;
+        let read = found(Primitive::decode_slice(octets, mode, |p| of_octets(p, width)));
+        count(&mut readers.octets, read, wanted);
+        let read = found(Primitive::decode_slice(octets, mode, |p| of_type(p, width)));
+        count(&mut readers.from_octets, read, wanted);
+    }
+}
+
+/// Reads a number, by a call of `Content`.
+fn of_content<S: Source>(
+    content: &mut Content<'_, S>,
+    width: Width,
+) -> Result<u128, DecodeError<S::Error>>
+    ensures { MovedContent S.stream content }
+{
+    match width {
+        Width::U8 => Ok(u128::from(content.to_u8()?)),
+        Width::U16 => Ok(u128::from(content.to_u16()?)),
+        Width::U32 => Ok(u128::from(content.to_u32()?)),
+        _ => Ok(u128::from(content.to_u64()?)),
+    }
+}
+
+/// Takes the content of the next value as a number.
+fn take_content<S: Source>(
+    cons: &mut Constructed<'_, S>,
+    width: Width,
+) -> Result<u128, DecodeError<S::Error>>
+    ensures { Moved S.stream cons }
+{
+    cons.take_value(|_tag, content| of_content(content, width))
+}
+
+/// Takes a number, by a call of `Constructed`.
+#[tactic(auto, using(bcder::specs::laws::Moved::steps))]
+fn take<S: Source>(
+    cons: &mut Constructed<'_, S>,
+    width: Width,
+) -> Result<u128, DecodeError<S::Error>>
+    ensures { Moved S.stream cons }
+{
+    match width {
+        Width::U8 => Ok(u128::from(cons.take_u8()?)),
+        Width::U16 => Ok(u128::from(cons.take_u16()?)),
+        Width::U32 => Ok(u128::from(cons.take_u32()?)),
+        _ => Ok(u128::from(cons.take_u64()?)),
+    }
+}
+
+/// Takes a number, if there is one, by a call of `Constructed`.
+#[tactic(auto, using(bcder::specs::laws::Moved::steps))]
+fn take_opt<S: Source>(
+    cons: &mut Constructed<'_, S>,
+    width: Width,
+) -> Result<Option<u128>, DecodeError<S::Error>>
+    ensures { Moved S.stream cons }
+{
+    match width {
+        Width::U8 => Ok(widened(cons.take_opt_u8()?)),
+        Width::U16 => Ok(widened(cons.take_opt_u16()?)),
+        Width::U32 => Ok(widened(cons.take_opt_u32()?)),
+        _ => Ok(widened(cons.take_opt_u64()?)),
+    }
+}
+
+/// Returns a number as a `u128`, if there is one.
+fn widened<T>(number: Option<T>) -> Option<u128>
+where
+    u128: From<T>,
+{
+    match number {
+        Some(number) => Some(u128::from(number)),
+        None => None,
+    }
+}
+
+/// Compares the calls on content, for each of their types.
+fn compare_content(value: &[u8], mode: Mode, numbers: &Numbers, readers: &mut Readers) {
+    for (width, wanted) in CONTENT.iter().zip(numbers.numbers) {
+        let (width, wanted) = (*width, unsigned_of(wanted));
+        let read = mode.decode(SliceSource::new(value), |cons| take_content(cons, width));
+        count(&mut readers.content, found(read), wanted);
+        let read = mode.decode(SliceSource::new(value), |cons| take(cons, width));
+        count(&mut readers.taken, found(read), wanted);
+        let read = mode.decode(SliceSource::new(value), |cons| take_opt(cons, width));
+        count(&mut readers.optional, present(read), wanted);
+    }
+}
+
+/// Returns an unsigned number, if there is one.
+fn unsigned_of(number: Option<Number>) -> Option<u128> {
+    match number {
+        Some(Number::Unsigned(number)) => Some(number),
+        _ => None,
+    }
+}
+
+/// A call that skips this number.
+#[derive(Clone, Copy)]
+enum Skip {
+    Content,
+    If,
+    OptIf,
+}
+
+/// Skips a number.
+fn skip<S: Source>(
+    cons: &mut Constructed<'_, S>,
+    call: Skip,
+    number: u8,
+) -> Result<(), DecodeError<S::Error>>
+    ensures { Moved S.stream cons }
+{
+    match call {
+        Skip::Content => cons.take_value(|_tag, content| content.skip_u8_if(number)),
+        Skip::If => cons.skip_u8_if(number),
+        Skip::OptIf => cons.skip_opt_u8_if(number),
+    }
+}
+
+/// Returns whether a call skips a number.
+fn is_skipped(value: &[u8], mode: Mode, call: Skip, number: u8) -> bool {
     let source = SliceSource::new(value);
-    let read = mode.decode(
-        source,
-        |cons| cons.take_value(|_tag, content| content.to_u8()),
-    );
-    count(tally, found(read), numbers.as_u8);
-    let source = SliceSource::new(value);
-    let read = mode.decode(
-        source,
-        |cons| cons.take_value(|_tag, content| content.to_u16()),
-    );
-    count(tally, found(read), numbers.as_u16);
-    let source = SliceSource::new(value);
-    let read = mode.decode(
-        source,
-        |cons| cons.take_value(|_tag, content| content.to_u32()),
-    );
-    count(tally, found(read), numbers.as_u32);
-    let source = SliceSource::new(value);
-    let read = mode.decode(
-        source,
-        |cons| cons.take_value(|_tag, content| content.to_u64()),
-    );
-    count(tally, found(read), numbers.as_u64);
-}
-
-/// Compares the calls of `Constructed`.
-fn compare_taken(value: &[u8], mode: Mode, numbers: &Numbers, tally: &mut Tally) {
-    let read = mode.decode(SliceSource::new(value), |cons| cons.take_u8());
-    count(tally, found(read), numbers.as_u8);
-    let read = mode.decode(SliceSource::new(value), |cons| cons.take_u16());
-    count(tally, found(read), numbers.as_u16);
-    let read = mode.decode(SliceSource::new(value), |cons| cons.take_u32());
-    count(tally, found(read), numbers.as_u32);
-    let read = mode.decode(SliceSource::new(value), |cons| cons.take_u64());
-    count(tally, found(read), numbers.as_u64);
-}
-
-/// Compares the optional calls of `Constructed`.
-fn compare_optional(value: &[u8], mode: Mode, numbers: &Numbers, tally: &mut Tally) {
-    let read = mode.decode(SliceSource::new(value), |cons| cons.take_opt_u8());
-    count(tally, present(read), numbers.as_u8);
-    let read = mode.decode(SliceSource::new(value), |cons| cons.take_opt_u16());
-    count(tally, present(read), numbers.as_u16);
-    let read = mode.decode(SliceSource::new(value), |cons| cons.take_opt_u32());
-    count(tally, present(read), numbers.as_u32);
-    let read = mode.decode(SliceSource::new(value), |cons| cons.take_opt_u64());
-    count(tally, present(read), numbers.as_u64);
+    mode.decode(source, |cons| skip(cons, call, number)).is_ok()
 }
 
 /// Compares the calls that skip this number.
 fn compare_skipped(value: &[u8], mode: Mode, number: u8, numbers: &Numbers, readers: &mut Readers) {
-    let same = numbers.as_u8 == Some(number);
-    let source = SliceSource::new(value);
-    let skipped = mode.decode(source, |cons| {
-        cons.take_value(|_tag, content| content.skip_u8_if(number))
-    });
-    readers.content.count(skipped.is_ok() == same);
-    let skipped = mode.decode(SliceSource::new(value), |cons| cons.skip_u8_if(number));
-    readers.skipped.count(skipped.is_ok() == same);
-    let skipped = mode.decode(SliceSource::new(value), |cons| cons.skip_opt_u8_if(number));
-    readers.skipped.count(skipped.is_ok() == same);
+    let same = numbers.octet == Some(number);
+    let skipped = is_skipped(value, mode, Skip::Content, number);
+    readers.content.count(skipped == same);
+    let skipped = is_skipped(value, mode, Skip::If, number);
+    readers.skipped.count(skipped == same);
+    let skipped = is_skipped(value, mode, Skip::OptIf, number);
+    readers.skipped.count(skipped == same);
 }
 
 /// Returns whether these octets are kept if that is wanted, else whether none are.
@@ -278,6 +457,37 @@ fn keeps<E: Drop>(kept: Result<Bytes, E>, octets: &[u8], wanted: bool) -> bool {
     match kept {
         Ok(kept) => wanted && kept.as_slice() == octets,
         Err(_) => !wanted,
+    }
+}
+
+/// Takes the octets of an integer, or of an unsigned one.
+#[tactic(auto, using(bcder::specs::laws::Moved::steps))]
+fn take_kept<S: Source>(
+    cons: &mut Constructed<'_, S>,
+    alloc: Global,
+    unsigned: bool,
+) -> Result<Bytes, DecodeError<S::Error>>
+    ensures { Moved S.stream cons }
+{
+    if unsigned {
+        Ok(Unsigned::take_from(alloc, cons)?.into_bytes())
+    } else {
+        Ok(Integer::take_from(alloc, cons)?.into_bytes())
+    }
+}
+
+/// Reads the octets of an integer, or of an unsigned one.
+fn read_kept<S: Source>(
+    octets: &mut Primitive<'_, S>,
+    alloc: Global,
+    unsigned: bool,
+) -> Result<Bytes, DecodeError<S::Error>>
+    ensures { MovedOctets S.stream octets }
+{
+    if unsigned {
+        Ok(Unsigned::from_primitive(alloc, octets)?.into_bytes())
+    } else {
+        Ok(Integer::from_primitive(alloc, octets)?.into_bytes())
     }
 }
 
@@ -290,36 +500,13 @@ fn compare_kept(
     numbers: &Numbers,
     tally: &mut Tally,
 ) {
-    let kept = mode.decode(
-        SliceSource::new(value),
-        |cons| Integer::take_from(alloc, cons),
-    );
-    tally.count(keeps(
-        kept.map(|kept| kept.into_bytes()),
-        octets,
-        numbers.is_integer,
-    ));
-    let kept = Primitive::decode_slice(octets, mode, |p| Integer::from_primitive(alloc, p));
-    tally.count(keeps(
-        kept.map(|kept| kept.into_bytes()),
-        octets,
-        numbers.is_integer,
-    ));
-    let kept = mode.decode(
-        SliceSource::new(value),
-        |cons| Unsigned::take_from(alloc, cons),
-    );
-    tally.count(keeps(
-        kept.map(|kept| kept.into_bytes()),
-        octets,
-        numbers.is_unsigned,
-    ));
-    let kept = Primitive::decode_slice(octets, mode, |p| Unsigned::from_primitive(alloc, p));
-    tally.count(keeps(
-        kept.map(|kept| kept.into_bytes()),
-        octets,
-        numbers.is_unsigned,
-    ));
+    for (unsigned, wanted) in [(false, numbers.is_integer), (true, numbers.is_unsigned)] {
+        let source = SliceSource::new(value);
+        let kept = mode.decode(source, |cons| take_kept(cons, alloc, unsigned));
+        tally.count(keeps(kept, octets, wanted));
+        let kept = Primitive::decode_slice(octets, mode, |p| read_kept(p, alloc, unsigned));
+        tally.count(keeps(kept, octets, wanted));
+    }
 }
 
 /// Returns a value with a tag of X.680, 8.4, and these contents octets, of which there are fewer
@@ -346,13 +533,8 @@ pub fn compare(
     let value = list.as_slice();
     let last = octets.last().copied().unwrap_or(0x00);
     for mode in MODES {
-        compare_unsigned(octets, mode, numbers, &mut readers.octets);
-        compare_signed(octets, mode, numbers, &mut readers.octets);
-        compare_from_unsigned(octets, mode, numbers, &mut readers.from_octets);
-        compare_from_signed(octets, mode, numbers, &mut readers.from_octets);
-        compare_content(value, mode, numbers, &mut readers.content);
-        compare_taken(value, mode, numbers, &mut readers.taken);
-        compare_optional(value, mode, numbers, &mut readers.optional);
+        compare_octets(octets, mode, numbers, readers);
+        compare_content(value, mode, numbers, readers);
         compare_skipped(value, mode, last, numbers, readers);
         compare_skipped(value, mode, last ^ 0x01, numbers, readers);
         compare_kept(alloc, value, octets, mode, numbers, &mut readers.kept);
@@ -409,9 +591,10 @@ fn compare_truths(alloc: Global, octets: &[u8], tally: &mut Tally) -> Result<(),
     Ok(())
 }
 
-/// Compares all contents of one octet and of two.
+/// Compares all contents of one octet and of two. Of booleans it compares empty contents too.
 pub fn compare_short(alloc: Global) -> Result<Readers, Error> {
     let mut readers = Readers::default();
+    compare_truths(alloc, &[], &mut readers.truths)?;
     for octet in 0..=u8::MAX {
         let numbers = Numbers::of_one(octet);
         compare(alloc, &[octet], &numbers, &mut readers)?;

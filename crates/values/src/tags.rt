@@ -12,7 +12,7 @@ use std::alloc::Global;
 use support::sip::Sip;
 
 /// The class of a tag.
-#[derive(Clone, Copy, Debug, PartialEq, Eq)]
+#[derive(Clone, Copy)]
 enum Class {
     Universal,
     Application,
@@ -29,7 +29,7 @@ const CLASSES: [(&str, Class); 4] = [
 ];
 
 /// How often tags were compared.
-#[derive(Clone, Copy, Debug, Default)]
+#[derive(Clone, Copy, Default)]
 pub struct Tallies {
     /// Tags that were taken.
     pub taken: Tally,
@@ -66,10 +66,10 @@ fn tag_of(class: Class, number: usize) -> Result<Tag, Malformed> {
 
 /// Returns whether a tag says that it is of this class, and of no other one.
 fn is_of(tag: Tag, class: Class) -> bool {
-    tag.is_universal() == (class == Class::Universal)
-        && tag.is_application() == (class == Class::Application)
-        && tag.is_context_specific() == (class == Class::Context)
-        && tag.is_private() == (class == Class::Private)
+    tag.is_universal() == matches!(class, Class::Universal)
+        && tag.is_application() == matches!(class, Class::Application)
+        && tag.is_context_specific() == matches!(class, Class::Context)
+        && tag.is_private() == matches!(class, Class::Private)
 }
 
 fn is_at_end<S: Source>(source: &mut S) -> bool {
