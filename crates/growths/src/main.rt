@@ -11,6 +11,7 @@ mod captured;
 mod encoded;
 mod end;
 mod numbers;
+mod read;
 mod restricted;
 mod sources;
 mod spare;

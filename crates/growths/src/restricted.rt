@@ -1,11 +1,10 @@
 //! Restricted character strings: made of texts, read, cloned, and consumed for their octets.
-ghost use Rattle.bcder.specs.calls.Views.{Moved};
-
-use crate::end::{End, answered, made, read, tell};
+use crate::end::{End, answered, tell};
+use crate::read::{Reader, Reading};
 use anyhow::Error;
-use bcder::decode::{Constructed, DecodeError, SliceSource, Source};
+use bcder::decode::SliceSource;
 use bcder::string::{StringError, Utf8String};
-use bcder::{Mode, Tag};
+use bcder::{Mode, NoMemory};
 use std::alloc::{AllocError, Global};
 
 /// The text of each string.
@@ -28,42 +27,12 @@ fn made_of(outcome: Result<Utf8String, StringError>) -> End {
     }
 }
 
-/// Takes a string, and returns whether it has the characters of the text.
-fn take<S: Source>(
-    cons: &mut Constructed<'_, S>,
-    alloc: Global,
-) -> Result<bool, DecodeError<S::Error>>
-    ensures { Moved S.stream cons }
-{
-    Ok(is_it(&Utf8String::take_from(alloc, cons)?))
-}
-
-/// Takes an optional string, and returns whether it has the characters of the text.
-fn take_opt<S: Source>(
-    cons: &mut Constructed<'_, S>,
-    alloc: Global,
-) -> Result<bool, DecodeError<S::Error>>
-    ensures { Moved S.stream cons }
-{
-    match Utf8String::take_opt_from(alloc, cons)? {
-        Some(string) => Ok(is_it(&string)),
-        None => Ok(false),
-    }
-}
-
-/// Takes a string from its content, and returns whether it has the characters of the text.
-fn take_content<S: Source>(
-    cons: &mut Constructed<'_, S>,
-    alloc: Global,
-) -> Result<bool, DecodeError<S::Error>>
-    ensures { Moved S.stream cons }
-{
-    let string = cons.take_value_if(
-        Tag::UTF8_STRING,
-        |content| Utf8String::from_content(alloc, content),
-    )?;
-    Ok(is_it(&string))
-}
+/// The readers of the value in segments.
+const READERS: [(&str, Reader); 3] = [
+    ("RestrictedString::take_from", Reader::Text),
+    ("RestrictedString::take_opt_from", Reader::OptText),
+    ("RestrictedString::from_content", Reader::TextOfContent),
+];
 
 /// Clones a string. The clone has the same characters.
 fn clones(string: &Utf8String) -> End {
@@ -81,19 +50,21 @@ pub fn run(rt: &HostRuntime) -> Result<(), Error> {
     let text = TEXT.to_string(alloc)?;
     let end = made_of(Utf8String::from_string(alloc, text));
     tell(rt, "RestrictedString::from_string", end)?;
-    let mut octets = SliceSource::new(CUT);
-    let end = read(Mode::Ber.decode_lent(&mut octets, |cons| take(cons, alloc)));
-    tell(rt, "RestrictedString::take_from", end)?;
-    let mut octets = SliceSource::new(CUT);
-    let end = read(Mode::Ber.decode_lent(&mut octets, |cons| take_opt(cons, alloc)));
-    tell(rt, "RestrictedString::take_opt_from", end)?;
-    let mut octets = SliceSource::new(CUT);
-    let end = read(Mode::Ber.decode_lent(&mut octets, |cons| take_content(cons, alloc)));
-    tell(rt, "RestrictedString::from_content", end)?;
+    for (name, reader) in READERS {
+        let reading = Reading {
+            reader,
+            mode: Mode::Ber,
+            value: CUT,
+            wanted: TEXT.as_bytes(),
+        };
+        tell(rt, name, reading.copied(alloc))?;
+    }
     let mut octets = SliceSource::new(CUT);
     let cut = Mode::Ber.decode_lent(&mut octets, |cons| Utf8String::take_from(alloc, cons))?;
     tell(rt, "RestrictedString::clone", clones(&cut))?;
-    let outcome = cut.into_bytes(alloc);
-    let end = made(outcome.map(|octets| octets.as_slice() == TEXT.as_bytes()));
+    let end = match cut.into_bytes(alloc) {
+        Ok(octets) => answered(octets.as_slice() == TEXT.as_bytes()),
+        Err(NoMemory) => End::NoMemory,
+    };
     tell(rt, "RestrictedString::into_bytes", end)
 }

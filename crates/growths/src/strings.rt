@@ -1,11 +1,9 @@
 //! Octet strings in one piece and cut into segments: read, cloned, joined, and as a source.
-ghost use Rattle.bcder.specs.calls.Views.{Moved};
-
-use crate::end::{End, answered, read, refused, tell_over};
+use crate::end::{End, answered, refused, tell_over};
+use crate::read::{Reader, Reading};
 use anyhow::Error;
-use bcder::decode::{BytesSource, Constructed, DecodeError, IntoSource, SliceSource, Source};
-use bcder::{Mode, NoMemory, OctetString, Tag};
-use bytes::Bytes;
+use bcder::decode::{IntoSource, SliceSource, Source};
+use bcder::{Mode, NoMemory, OctetString};
 use std::alloc::{AllocError, Global};
 
 /// The octets of each string.
@@ -23,88 +21,45 @@ const TAGGED: &[u8] = &[
     0xA0, 0x0A, 0x04, 0x01, 0x61, 0x04, 0x01, 0x62, 0x04, 0x02, 0x63, 0x64,
 ];
 
-/// Takes the string of a value, and returns whether it has these octets.
-fn take_opt<S: Source>(
-    cons: &mut Constructed<'_, S>,
-    alloc: Global,
-) -> Result<bool, DecodeError<S::Error>>
-    ensures { Moved S.stream cons }
-{
-    match OctetString::take_opt_from(alloc, cons)? {
-        Some(string) => Ok(string.eq_octets(OCTETS)),
-        None => Ok(false),
-    }
-}
-
-/// Takes the string of a value with the tag `[0]`, and returns whether it has these octets.
-fn take_tagged<S: Source>(
-    cons: &mut Constructed<'_, S>,
-    alloc: Global,
-) -> Result<bool, DecodeError<S::Error>>
-    ensures { Moved S.stream cons }
-{
-    match OctetString::take_opt_if(alloc, cons, Tag::CTX_0)? {
-        Some(string) => Ok(string.eq_octets(OCTETS)),
-        None => Ok(false),
-    }
-}
-
-/// Takes the string of a value from its content, and returns whether it has these octets.
-fn take_content<S: Source>(
-    cons: &mut Constructed<'_, S>,
-    alloc: Global,
-) -> Result<bool, DecodeError<S::Error>>
-    ensures { Moved S.stream cons }
-{
-    let string = cons.take_value_if(
-        Tag::OCTET_STRING,
-        |content| OctetString::from_content(alloc, content),
-    )?;
-    Ok(string.eq_octets(OCTETS))
-}
-
-/// Makes both calls over a source.
-fn run_over<S: Source>(
-    rt: &HostRuntime,
-    over: &str,
-    one: &mut S,
-    other: &mut S,
-) -> Result<(), Error> {
-    let alloc = rt.alloc();
-    let end = read(Mode::Ber.decode_lent(one, |cons| take_opt(cons, alloc)));
-    tell_over(rt, "OctetString::take_opt_from, in segments", over, end)?;
-    let end = read(Mode::Ber.decode_lent(other, |cons| take_content(cons, alloc)));
-    tell_over(rt, "OctetString::from_content, in segments", over, end)
-}
+/// The readers of the string in segments.
+const READERS: [(&str, Reading<'static>); 3] = [
+    (
+        "OctetString::take_opt_from, in segments",
+        Reading {
+            reader: Reader::OptOctets,
+            mode: Mode::Ber,
+            value: CUT,
+            wanted: OCTETS,
+        },
+    ),
+    (
+        "OctetString::from_content, in segments",
+        Reading {
+            reader: Reader::OctetsOfContent,
+            mode: Mode::Ber,
+            value: CUT,
+            wanted: OCTETS,
+        },
+    ),
+    (
+        "OctetString::take_opt_if, in segments",
+        Reading {
+            reader: Reader::OptTagged,
+            mode: Mode::Ber,
+            value: TAGGED,
+            wanted: OCTETS,
+        },
+    ),
+];
 
 fn run_readers(rt: &HostRuntime) -> Result<(), Error> {
-    let alloc = rt.alloc();
-    run_over(
-        rt,
-        "copied",
-        &mut SliceSource::new(CUT),
-        &mut SliceSource::new(CUT),
-    )?;
-    let one = Bytes::copy_from_slice(alloc, CUT)?;
-    let other = Bytes::copy_from_slice(alloc, CUT)?;
-    run_over(
-        rt,
-        "shared",
-        &mut BytesSource::new(one),
-        &mut BytesSource::new(other),
-    )
-}
-
-/// Takes a string with the tag `[0]` over both sources.
-fn run_tagged(rt: &HostRuntime) -> Result<(), Error> {
-    let alloc = rt.alloc();
-    let name = "OctetString::take_opt_if, in segments";
-    let mut copied = SliceSource::new(TAGGED);
-    let end = read(Mode::Ber.decode_lent(&mut copied, |cons| take_tagged(cons, alloc)));
-    tell_over(rt, name, "copied", end)?;
-    let mut shared = BytesSource::new(Bytes::copy_from_slice(alloc, TAGGED)?);
-    let end = read(Mode::Ber.decode_lent(&mut shared, |cons| take_tagged(cons, alloc)));
-    tell_over(rt, name, "shared", end)
+    let [first, second, third] = READERS;
+    first.1.tell_copied(rt, first.0)?;
+    second.1.tell_copied(rt, second.0)?;
+    first.1.tell_shared(rt, first.0)?;
+    second.1.tell_shared(rt, second.0)?;
+    third.1.tell_copied(rt, third.0)?;
+    third.1.tell_shared(rt, third.0)
 }
 
 /// Returns the string of a value.
@@ -200,7 +155,6 @@ fn run_of(rt: &HostRuntime, how: &str, value: &[u8], parts: usize) -> Result<(),
 
 pub fn run(rt: &HostRuntime) -> Result<(), Error> {
     run_readers(rt)?;
-    run_tagged(rt)?;
     run_of(rt, "whole", WHOLE, 1)?;
     run_of(rt, "cut", CUT, 3)
 }

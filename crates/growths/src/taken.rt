@@ -1,9 +1,9 @@
 //! What is taken of content, captured and skipped.
-ghost use Rattle.bcder.specs.calls.Views.{Moved};
+ghost use Rattle.bcder.specs.calls.Views.{Moved, MovedOctets};
 
 use crate::end::{End, answered, read, refused, tell, tell_over};
 use anyhow::Error;
-use bcder::decode::{BytesSource, Constructed, DecodeError, SliceSource, Source};
+use bcder::decode::{BytesSource, Constructed, DecodeError, Primitive, SliceSource, Source};
 use bcder::{Integer, Mode, OctetString, Oid, Unsigned};
 use bytes::Bytes;
 use std::alloc::Global;
@@ -46,31 +46,18 @@ const TAKES: [(&str, Take); 14] = [
 ];
 
 /// Takes the octets of a primitive value, as the type in which they are kept.
-fn take_of<S: Source>(
-    cons: &mut Constructed<'_, S>,
+fn of_octets<S: Source>(
+    octets: &mut Primitive<'_, S>,
     alloc: Global,
     take: Take,
 ) -> Result<Bytes, DecodeError<S::Error>>
-    ensures { Moved S.stream cons }
+    ensures { MovedOctets S.stream octets }
 {
     match take {
-        Take::IntegerOf => {
-            let number = cons.take_primitive(|_tag, octets| Integer::from_primitive(
-                alloc, octets,
-            ))?;
-            Ok(number.into_bytes())
-        }
-        Take::UnsignedOf => {
-            let number = cons.take_primitive(|_tag, octets| Unsigned::from_primitive(
-                alloc, octets,
-            ))?;
-            Ok(number.into_bytes())
-        }
-        Take::IdentifierOf => {
-            let oid = cons.take_primitive(|_tag, octets| Oid::from_primitive(alloc, octets))?;
-            Ok(oid.0)
-        }
-        _ => cons.take_primitive(|_tag, octets| octets.take_all(alloc)),
+        Take::IntegerOf => Ok(Integer::from_primitive(alloc, octets)?.into_bytes()),
+        Take::UnsignedOf => Ok(Unsigned::from_primitive(alloc, octets)?.into_bytes()),
+        Take::IdentifierOf => Ok(Oid::from_primitive(alloc, octets)?.0),
+        _ => octets.take_all(alloc),
     }
 }
 
@@ -91,7 +78,7 @@ fn take_octets<S: Source>(
             Some(oid) => oid.0,
             None => return Ok(false),
         },
-        _ => take_of(cons, alloc, take)?,
+        _ => cons.take_primitive(|_tag, octets| of_octets(octets, alloc, take))?,
     };
     Ok(octets.as_slice() == wanted)
 }
