@@ -4,7 +4,7 @@ use bcder::{Mode, Tag};
 use std::alloc::{AllocError, Global};
 
 /// The tag and the form of a value, and the number of values around it.
-#[derive(Clone, Copy, Debug, PartialEq)]
+#[derive(Clone, Copy, PartialEq)]
 pub struct Heading {
     pub tag: Tag,
     pub constructed: bool,

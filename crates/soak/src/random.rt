@@ -1,7 +1,7 @@
 //! Returns numbers that follow from a seed, so that each run gets the same.
 
 /// A linear congruential generator of 64 bits (Knuth's), which returns the upper half of them.
-#[derive(Clone, Copy, Debug)]
+#[derive(Clone, Copy)]
 pub struct Random {
     state: u64,
 }

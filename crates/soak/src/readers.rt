@@ -12,7 +12,7 @@ use std::alloc::{AllocError, Global};
 use support::sip::Sip;
 
 /// A call that skips or takes the next value.
-#[derive(Clone, Copy, Debug, PartialEq, Eq)]
+#[derive(Clone, Copy)]
 enum Way {
     Walk,
     SkipOne,
@@ -123,7 +123,7 @@ fn is_same<S: Source>(source: &mut S, alloc: Global, way: Way, found: &Found<'_>
             passed == found.size.is_some()
                 && left.is_ok_and(|left| count.checked_sub(left) == Some(found.size.unwrap_or(0)))
         }
-        Err(_) => found.size.is_none() && way != Way::CaptureOne && count > 0,
+        Err(_) => found.size.is_none() && !matches!(way, Way::CaptureOne) && count > 0,
     }
 }
 

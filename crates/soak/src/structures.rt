@@ -5,7 +5,7 @@ use std::alloc::{AllocError, Global};
 use std::convert::TryFrom;
 
 /// The tag of a constructed value.
-#[derive(Clone, Copy, Debug, PartialEq, Eq)]
+#[derive(Clone, Copy)]
 pub enum Kind {
     Sequence,
     Set,

@@ -1,7 +1,7 @@
 //! Counts answers that were compared.
 
 /// How many answers were compared, of how many values, and whether one differs.
-#[derive(Clone, Copy, Debug, Default)]
+#[derive(Clone, Copy, Default)]
 pub struct Tally {
     pub values: u64,
     pub refused: u64,
