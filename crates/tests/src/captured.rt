@@ -166,12 +166,6 @@ const LINES: [Line; 20] = [
     (Made::Kept, &[0x02, 0x01, 0x01], DER, "0"),
 ];
 
-/// Captures all values of the octets in a mode.
-fn capture(case: &Case<'_, impl Abort>, octets: &[u8], mode: Mode) -> Captured {
-    let alloc = case.alloc;
-    case.done(mode.decode(SliceSource::new(octets), |cons| all(cons, alloc)))
-}
-
 /// Captures what is inside a SEQUENCE.
 #[tactic(auto, using(bcder::specs::laws::Moved::steps))]
 fn inside<S: Source>(
@@ -183,18 +177,43 @@ fn inside<S: Source>(
     cons.take_sequence(|inner| inner.capture_all(alloc))
 }
 
-/// Captures values of octets.
-fn read(case: &Case<'_, impl Abort>, made: Made) -> Captured {
+/// Captures values of content.
+fn take<S: Source>(
+    cons: &mut Content<'_, S>,
+    alloc: Global,
+    made: Made,
+) -> Result<Captured, DecodeError<S::Error>>
+    ensures { Moved S.stream cons }
+{
+    match made {
+        Made::Inside => inside(cons, alloc),
+        Made::InBer => passed_in_ber(cons, alloc),
+        Made::Second => second(cons, alloc),
+        _ => all(cons, alloc),
+    }
+}
+
+/// Captures values of octets in a mode.
+fn captured_of(case: &Case<'_, impl Abort>, octets: &[u8], mode: Mode, made: Made) -> Captured {
     let alloc = case.alloc;
+    case.done(mode.decode(SliceSource::new(octets), |cons| take(cons, alloc, made)))
+}
+
+/// Captures all values of the octets in a mode.
+fn capture(case: &Case<'_, impl Abort>, octets: &[u8], mode: Mode) -> Captured {
+    captured_of(case, octets, mode, Made::All(mode))
+}
+
+/// Captures values of octets that hold more.
+fn read(case: &Case<'_, impl Abort>, made: Made) -> Captured {
     let held = [0x30, 0x80, 0x02, 0x01, 0x05, 0x00, 0x00];
     let behind = [0x04, 0x00, 0x02, 0x01, 0x05];
     let open = [0x30, 0x80, 0x00, 0x00];
-    let found = match made {
-        Made::Inside => Mode::Ber.decode(SliceSource::new(&held), |cons| inside(cons, alloc)),
-        Made::InBer => Mode::Der.decode(SliceSource::new(&open), |cons| passed_in_ber(cons, alloc)),
-        _ => Mode::Der.decode(SliceSource::new(&behind), |cons| second(cons, alloc)),
-    };
-    case.done(found)
+    match made {
+        Made::Inside => captured_of(case, &held, Mode::Ber, made),
+        Made::InBer => captured_of(case, &open, Mode::Der, made),
+        _ => captured_of(case, &behind, Mode::Der, Made::Second),
+    }
 }
 
 /// Builds on captured values.

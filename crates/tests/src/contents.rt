@@ -99,6 +99,13 @@ fn check_forms<S: Source>(
     cons.take_value(|_, content| check_form(case, content, mode, false))
 }
 
+/// Returns whether the next value, which may be there, is refused.
+fn takes_nothing<S: Source>(cons: &mut Constructed<'_, S>) -> bool
+    ensures { Moved S.stream cons }
+{
+    is_refused(cons.take_opt_value(|_, content| pass(content)))
+}
+
 /// Takes one value, and makes the content fail. Checks that no other value is taken then.
 fn fail_behind_one<S: Source>(
     case: &Case<'_, impl Abort>,
@@ -108,8 +115,7 @@ fn fail_behind_one<S: Source>(
 {
     pass_one(cons)?;
     cons.fail();
-    let later = cons.take_opt_value(|_, content| pass(content));
-    case.holds(is_refused(later));
+    case.holds(takes_nothing(cons));
     Ok(())
 }
 
@@ -165,6 +171,22 @@ const LINES: [Line; 5] = [
     ),
 ];
 
+/// Makes the content of a SEQUENCE fail, or checks content of both forms.
+fn check_way<S: Source>(
+    case: &Case<'_, impl Abort>,
+    cons: &mut Constructed<'_, S>,
+    mode: Mode,
+    way: Way,
+) -> Result<(), DecodeError<S::Error>>
+    ensures { Moved S.stream cons }
+{
+    match way {
+        Way::Forms => check_forms(case, cons, mode),
+        Way::FailBehindOne => cons.take_sequence(|inner| fail_behind_one(case, inner)),
+        Way::FailBehindAll => cons.take_sequence(|inner| fail_behind_all(inner)),
+    }
+}
+
 impl Row for Line {
     fn octets(&self) -> &[u8] {
         self.1
@@ -172,15 +194,8 @@ impl Row for Line {
 
     fn check<S: Source + Drop, R: Abort>(&self, case: &Case<'_, R>, source: S) {
         let mode = self.0;
-        let outcome = match self.2 {
-            Way::Forms => mode.decode(source, |cons| check_forms(case, cons, mode)),
-            Way::FailBehindOne => mode.decode(source, |cons| {
-                cons.take_sequence(|inner| fail_behind_one(case, inner))
-            }),
-            Way::FailBehindAll => mode.decode(source, |cons| {
-                cons.take_sequence(|inner| fail_behind_all(inner))
-            }),
-        };
+        let way = self.2;
+        let outcome = mode.decode(source, |cons| check_way(case, cons, mode, way));
         match outcome {
             Ok(()) => case.holds(self.3),
             Err(error) => case.holds(!self.3 && error.content_error().is_some()),
@@ -201,8 +216,7 @@ fn take_failing<S: Source>(rt: &impl Abort, cons: &mut Constructed<'_, S>)
 {
     if let Err(error) = cons.take_primitive(|_, octets| octets.skip_all()) {
         holds(rt, error.is_source());
-        let later = cons.take_opt_value(|_, content| pass(content));
-        holds(rt, is_refused(later));
+        holds(rt, takes_nothing(cons));
     }
 }
 
@@ -217,8 +231,7 @@ fn enter_failing<S: Source>(rt: &impl Abort, cons: &mut Constructed<'_, S>)
         Ok(())
     });
     if entered.is_err() {
-        let later = cons.take_opt_value(|_, content| pass(content));
-        holds(rt, is_refused(later));
+        holds(rt, takes_nothing(cons));
     }
 }
 

@@ -69,7 +69,7 @@ pub fn are_wanted<V: Values>(case: &Case<'_, impl Abort>, values: &V, wanted: [W
 }
 
 /// Known values.
-#[derive(Clone, Copy, Debug)]
+#[derive(Clone, Copy)]
 enum Known {
     Four,
     Sequence,

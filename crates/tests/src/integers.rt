@@ -1,4 +1,5 @@
-//! Tests of integers, booleans and null: worked values.
+//! Tests of integers: worked values. What octets are as integers of any kind, and as booleans, is
+//! compared in `values`.
 #![tactic(auto, using(bcder::specs::laws::Moved::steps))]
 
 ghost use Rattle.bcder.specs.calls.Views.{Moved, MovedOctets};
@@ -38,35 +39,6 @@ fn a_refused_reader_takes_nothing(rt: HostRuntime) {
         &rt,
         matches!(refused.content_error(), Some(ContentError::Static(_))),
     );
-}
-
-/// Returns the boolean that octets are.
-fn truth(octets: &[u8], mode: Mode) -> Option<bool> {
-    match Primitive::decode_slice(octets, mode, |p| p.to_bool()) {
-        Ok(value) => Some(value),
-        Err(_) => None,
-    }
-}
-
-/// Contents octets, and the boolean that they are in BER, CER and DER.
-const TRUTHS: [(&[u8], [Option<bool>; 3]); 5] = [
-    (&[0x00], [Some(false); 3]),
-    (&[0xFF], [Some(true); 3]),
-    (&[0x00, 0x00], [None; 3]),
-    (&[], [None; 3]),
-    (&[0x01], [Some(true), None, None]),
-];
-
-#[test]
-fn booleans(rt: HostRuntime) {
-    for (row, (octets, wanted)) in TRUTHS.iter().enumerate() {
-        let found = [
-            truth(*octets, Mode::Ber),
-            truth(*octets, Mode::Cer),
-            truth(*octets, Mode::Der),
-        ];
-        Case::new(&rt, rt.alloc(), row).same(found, *wanted);
-    }
 }
 
 /// Checks all octets, taken and borrowed.
@@ -195,27 +167,6 @@ fn integers_in_their_order(rt: HostRuntime) {
 fn a_number_that_is_too_large(rt: HostRuntime) {
     let most = done(&rt, Integer::from_u128(rt.alloc(), u128::MAX));
     same(&rt, i128::try_from(most), Err(OverflowError));
-}
-
-/// Octets, and those of the unsigned number that they are.
-const UNSIGNED: [(&[u8], &[u8]); 5] = [
-    (&[0xFF], &[0x00, 0xFF]),
-    (&[0x00, 0xFF], &[0x00, 0xFF]),
-    (&[0x00, 0x00, 0xFF], &[0x00, 0xFF]),
-    (&[0x00, 0x00, 0x7F, 0x00], &[0x7F, 0x00]),
-    (&[0x00, 0x00], &[0x00]),
-];
-
-#[test]
-fn unsigned_integers(rt: HostRuntime) {
-    for (row, (octets, wanted)) in UNSIGNED.iter().enumerate() {
-        let case = Case::new(&rt, rt.alloc(), row);
-        let copied = case.done(Unsigned::from_slice(rt.alloc(), *octets));
-        case.same(copied.as_slice(), *wanted);
-        let octets = case.done(Bytes::copy_from_slice(rt.alloc(), *octets));
-        let shared = case.done(Unsigned::from_bytes(rt.alloc(), octets));
-        case.holds(copied == shared);
-    }
 }
 
 #[test]

@@ -16,7 +16,7 @@ use std::process::Abort;
 // ---- reading
 
 /// A reader of a BIT STRING.
-#[derive(Clone, Copy, Debug)]
+#[derive(Clone, Copy)]
 enum Reader {
     Take,
     FromContent,

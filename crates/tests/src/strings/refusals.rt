@@ -2,9 +2,11 @@
 //! allocate for octets that mean something.
 #![tactic(auto, using(bcder::specs::laws::Moved::steps))]
 
+ghost use Rattle.bcder.specs.calls.Views.{Moved};
+
 use crate::asserts::{Case, done, is_refused};
 use crate::over::{Row, check_all, check_over};
-use bcder::decode::Source;
+use bcder::decode::{Constructed, DecodeError, Source};
 use bcder::string::Utf8String;
 use bcder::{BitString, Integer, Mode, OctetString, Oid, Unsigned};
 use std::alloc::Global;
@@ -23,28 +25,41 @@ enum Reader {
     All,
 }
 
-/// Returns whether a reader refuses the next value for its octets.
-fn refuses<S: Source>(alloc: Global, mode: Mode, source: &mut S, reader: Reader) -> bool {
+/// Reads the next value, and drops what is read.
+fn read<S: Source>(
+    cons: &mut Constructed<'_, S>,
+    alloc: Global,
+    reader: Reader,
+) -> Result<(), DecodeError<S::Error>>
+    ensures { Moved S.stream cons }
+{
     match reader {
         Reader::Integer => {
-            is_refused(mode.decode_lent(source, |cons| Integer::take_from(alloc, cons)))
+            Integer::take_from(alloc, cons)?;
         }
         Reader::Unsigned => {
-            is_refused(mode.decode_lent(source, |cons| Unsigned::take_from(alloc, cons)))
+            Unsigned::take_from(alloc, cons)?;
         }
-        Reader::Oid => is_refused(mode.decode_lent(source, |cons| Oid::take_from(alloc, cons))),
+        Reader::Oid => {
+            Oid::take_from(alloc, cons)?;
+        }
         Reader::Bits => {
-            is_refused(mode.decode_lent(source, |cons| BitString::take_from(alloc, cons)))
+            BitString::take_from(alloc, cons)?;
         }
         Reader::Octets => {
-            is_refused(mode.decode_lent(source, |cons| OctetString::take_from(alloc, cons)))
+            OctetString::take_from(alloc, cons)?;
         }
         Reader::Utf8 => {
-            is_refused(mode.decode_lent(source, |cons| Utf8String::take_from(alloc, cons)))
+            Utf8String::take_from(alloc, cons)?;
         }
-        Reader::One => is_refused(mode.decode_lent(source, |cons| cons.capture_one(alloc))),
-        Reader::All => is_refused(mode.decode_lent(source, |cons| cons.capture_all(alloc))),
+        Reader::One => {
+            cons.capture_one(alloc)?;
+        }
+        Reader::All => {
+            cons.capture_all(alloc)?;
+        }
     }
+    Ok(())
 }
 
 /// A mode, octets, and a reader that refuses them for what they are.
@@ -92,7 +107,11 @@ impl Row for Line<'_> {
 
     fn check<S: Source + Drop, R: Abort>(&self, case: &Case<'_, R>, source: S) {
         let mut source = source;
-        case.holds(refuses(case.alloc, self.0, &mut source, self.2));
+        let (alloc, reader) = (case.alloc, self.2);
+        let found = self
+            .0
+            .decode_lent(&mut source, |cons| read(cons, alloc, reader));
+        case.holds(is_refused(found));
     }
 }
 
