@@ -1,5 +1,6 @@
 """Reads must-fail edits, finds the functions that each turns, and sorts them into checks."""
 import os
+import re
 
 from functions import functions_of
 from report import FILES, Part, folder_of
@@ -21,6 +22,9 @@ class Crate:
         self.functions = {path: functions_of(text) for path, text in self.texts.items()}
         # What a check without an edit says of each function, by the checker's name.
         self.states = {}
+        # Whether each of its modules is compiled for tests alone.
+        modules = re.findall(r"(?m)^(#\[cfg\(test\)\]\n)?(?:pub )?mod \w+;", self.texts.get("src/lib.rt", ""))
+        self.is_of_tests = bool(modules) and all(modules)
 
     def turned(self, edits):
         """The checker's names of the functions that the edits turn, or none where it doesn't name each: then all are checked."""

@@ -37,14 +37,14 @@ class Judge:
         """Whether checks with these jobs find processors and memory."""
         return sum(running) <= PROCESSORS and sum(A_PROCESS + A_JOB * it for it in running) <= self.room
 
-    def check(self, folder, jobs, only=()):
-        """Checks a crate, or these functions of it and what they call, once there is room for it."""
+    def check(self, folder, jobs, only=(), is_of_tests=False):
+        """Checks a crate, with its tests if it has nothing else, or these functions of it and what they call, once there is room."""
         while jobs > 1 and not self.fits([jobs]):
             jobs -= 1
         with self.ending:
             self.ending.wait_for(lambda: not self.running or self.fits([*self.running, jobs]))
             self.running.append(jobs)
-        words = ["rt", "check", "--jobs", str(jobs), *(it for name in only for it in ("--only", name))]
+        words = ["rt", "check", "--jobs", str(jobs), *(it for name in only for it in ("--only", name)), *["--test"] * is_of_tests]
         how = {"stdin": subprocess.DEVNULL, "stdout": subprocess.PIPE, "stderr": subprocess.STDOUT}
         try:
             return Report(subprocess.run(words, cwd=folder, **how).stdout.decode(errors="replace"))
@@ -84,7 +84,8 @@ class Judge:
         """Checks a crate without an edit, over which those with edits are made, and answers the checks that are left to do."""
         share(ROOT, f"{self.scratch}/{name}", name)
         self.note(f"{name}: a check without an edit, then {len(batches)} with edits")
-        report = self.check(f"{self.scratch}/{name}/crates/{name}", PROCESSORS)
+        is_of_tests = any(it.is_of_tests for it, _ in batches)
+        report = self.check(f"{self.scratch}/{name}/crates/{name}", PROCESSORS, is_of_tests=is_of_tests)
         for crate, _ in batches:
             crate.states = report.states
         if report.is_proved:
@@ -103,7 +104,7 @@ class Judge:
         for path, text in texts.items():
             with open(f"{folder}/crates/{crate.name}/{path}", "w", encoding="utf-8") as it:
                 it.write(text)
-        report = self.check(f"{folder}/crates/{crate.name}", jobs, crate.turned(batch))
+        report = self.check(f"{folder}/crates/{crate.name}", jobs, crate.turned(batch), crate.is_of_tests)
         shutil.rmtree(folder)
         self.note(f"{crate.name}: a check of {len(batch)} edits")
         bad = report.uncompiled(texts, batch)

@@ -12,6 +12,7 @@ mod any;
 mod boxed;
 #[cfg(test)]
 mod choices;
+#[cfg(test)]
 mod clear;
 #[cfg(test)]
 mod cut;
@@ -33,11 +34,13 @@ mod lent;
 mod lists;
 #[cfg(test)]
 mod members;
+#[cfg(test)]
 mod memory;
 #[cfg(test)]
 mod numbers;
 #[cfg(test)]
 mod plain;
+#[cfg(test)]
 mod recursion;
 #[cfg(test)]
 mod rows;
@@ -47,6 +50,7 @@ mod sets;
 mod sources;
 #[cfg(test)]
 mod strings;
-pub mod trees;
+#[cfg(test)]
+mod trees;
 #[cfg(test)]
 mod tuples;

@@ -2,16 +2,13 @@
 //! Expected values are worked by hand from X.690, 8.12 to 8.14.
 ghost use Rattle.asn1.specs.declared.choice.Choice4.TheVariants.{One, Two, Three, Four};
 
-#[cfg(test)]
-use asn1::decode;
-use asn1::{Any, Choice4, Context, DecodeDefinition, Definition, Explicit, Implicit, SetOf};
-#[cfg(test)]
-use bcder::Mode;
-use bcder::OctetString;
+use asn1::{
+    Any, Choice4, Context, DecodeDefinition, Definition, Explicit, Implicit, SetOf, decode,
+};
 use bcder::decode::{DecodeError, Source};
+use bcder::{Mode, OctetString};
 use std::alloc::Global;
 use std::convert::Infallible;
-#[cfg(test)]
 use std::process::Abort;
 
 /// One level of a filter of LDAP, in part (RFC 4511, section 4.5.1.7).
@@ -131,7 +128,6 @@ fn filters_of(alloc: Global, parts: SetOf<Any>, levels: u32) -> Result<Vec<Filte
 }
 
 /// Octets, and the filter of at most three levels that they are.
-#[cfg(test)]
 const FILTERS: [(&[u8], &str); 8] = [
     (&[0x87, 0x02, 0x63, 0x6E], "Present(\"cn\")"),
     // not of not, and one more
@@ -159,7 +155,6 @@ const FILTERS: [(&[u8], &str); 8] = [
 ];
 
 /// Returns how what was read is shown, with octets alone for a string.
-#[cfg(test)]
 fn shown(rt: &impl Abort, alloc: Global, octets: &[u8]) -> String {
     let text = match decode::<Any, &[u8]>(alloc, Mode::Ber, octets) {
         Ok(value) => match filter_of(alloc, value, 3) {

@@ -6,7 +6,6 @@ use bcder::decode::DecodeError;
 use bcder::encode::EncodeError;
 use std::alloc::Global;
 use std::convert::Infallible;
-#[cfg(test)]
 use std::process::Abort;
 
 /// A number, and trees below it.
@@ -111,7 +110,6 @@ fn all_written(
 }
 
 /// Octets, and the tree of at most three levels that they are.
-#[cfg(test)]
 const TREES: [(Mode, &[u8], &str); 9] = [
     (
         Mode::Der,
@@ -175,7 +173,6 @@ const TREES: [(Mode, &[u8], &str); 9] = [
 ];
 
 /// Reads a tree of at most three levels.
-#[cfg(test)]
 fn read(alloc: Global, mode: Mode, octets: &[u8]) -> Result<Tree, NoTree> {
     match decode::<Any, &[u8]>(alloc, mode, octets) {
         Ok(value) => tree_of(alloc, value, 3),
@@ -184,7 +181,6 @@ fn read(alloc: Global, mode: Mode, octets: &[u8]) -> Result<Tree, NoTree> {
 }
 
 /// Returns how what was read is shown.
-#[cfg(test)]
 fn shown(rt: &impl Abort, alloc: Global, mode: Mode, octets: &[u8]) -> String {
     let text = match read(alloc, mode, octets) {
         Ok(tree) => format!(in alloc; "{tree:?}"),
@@ -204,7 +200,6 @@ fn trees_hold_trees(rt: HostRuntime) {
 
 /// Asserts that a tree that is read is written as the same octets, and not if it has more levels
 /// than it may have.
-#[cfg(test)]
 fn is_written(rt: &impl Abort, alloc: Global, mode: Mode, octets: &[u8], levels: u32) {
     if let Ok(tree) = read(alloc, mode, octets) {
         let again = written(alloc, mode, &tree, levels).expect(rt, "unwritten");
