@@ -1,5 +1,7 @@
-//! Tests of the types of `certificates`.
+//! Tests of the types of `certificates` and `extensions`.
 #![tactic(auto, using(bcder::specs::laws::Moved::untouched_is_moved))]
 
+#[cfg(test)]
+mod extension_tests;
 #[cfg(test)]
 mod tests;

@@ -6,8 +6,6 @@
 mod constraints;
 mod extension;
 mod keys;
-#[cfg(test)]
-mod tests;
 mod validity;
 
 pub use constraints::{BasicConstraints, NoCa};
