@@ -1,5 +1,5 @@
 //! One value of whatever type. Expected values are worked by hand from X.690, 8.1.
-use crate::rows::{Read, Written, reads, rewrites, takes};
+use crate::rows::{Read, Written, reads, reads_and_rewrites, takes};
 use asn1::{Any, Choice2, Context, Decode, Explicit, Sequence, decode, encode};
 use bcder::decode::BytesSource;
 use bcder::encode::EncodeError;
@@ -16,7 +16,7 @@ const WITH_NULL: &str = "Sequence((Oid(b\"*\\x03\"), Some([ 05 00 ])))";
 
 const WITH_NONE: &str = "Sequence((Oid(b\"*\\x03\"), None))";
 
-const DEFINITE: [Read; 7] = [
+const PARAMETERS: [Read; 14] = [
     (
         Mode::Der,
         &[0x30, 0x06, 0x06, 0x02, 0x2A, 0x03, 0x05, 0x00],
@@ -47,9 +47,7 @@ const DEFINITE: [Read; 7] = [
         &[0x30, 0x07, 0x06, 0x02, 0x2A, 0x03, 0x05, 0x81, 0x00],
         "refused",
     ),
-];
-
-const INDEFINITE: [Read; 7] = [
+    // indefinite lengths
     (
         Mode::Ber,
         &[0x30, 0x80, 0x06, 0x02, 0x2A, 0x03, 0x05, 0x00, 0x00, 0x00],
@@ -90,10 +88,33 @@ const INDEFINITE: [Read; 7] = [
     ),
 ];
 
+const WRITTEN: [Written; 3] = [
+    (
+        &[0x30, 0x80, 0x06, 0x02, 0x2A, 0x03, 0x05, 0x00, 0x00, 0x00],
+        Mode::Ber,
+        &[0x30, 0x06, 0x06, 0x02, 0x2A, 0x03, 0x05, 0x00],
+    ),
+    (
+        &[0x30, 0x04, 0x06, 0x02, 0x2A, 0x03],
+        Mode::Der,
+        &[0x30, 0x04, 0x06, 0x02, 0x2A, 0x03],
+    ),
+    // what is kept is written as it was
+    (
+        &[
+            0x30, 0x80, 0x06, 0x02, 0x2A, 0x03, 0x30, 0x80, 0x02, 0x01, 0x05, 0x00, 0x00, 0x00,
+            0x00,
+        ],
+        Mode::Ber,
+        &[
+            0x30, 0x0B, 0x06, 0x02, 0x2A, 0x03, 0x30, 0x80, 0x02, 0x01, 0x05, 0x00, 0x00,
+        ],
+    ),
+];
+
 #[test]
 fn parameters_are_kept_or_left_out(rt: HostRuntime) {
-    reads::<AlgorithmIdentifier>(&rt, rt.alloc(), &DEFINITE);
-    reads::<AlgorithmIdentifier>(&rt, rt.alloc(), &INDEFINITE);
+    reads_and_rewrites::<AlgorithmIdentifier>(&rt, rt.alloc(), &PARAMETERS, &WRITTEN);
 }
 
 const NEXT: [Read; 5] = [
@@ -163,30 +184,6 @@ fn any_value_stands_wherever_a_type_can(rt: HostRuntime) {
     takes::<Choice2<u32, Any>>(&rt, rt.alloc(), &CHOICE);
 }
 
-const WRITTEN: [Written; 3] = [
-    (
-        &[0x30, 0x80, 0x06, 0x02, 0x2A, 0x03, 0x05, 0x00, 0x00, 0x00],
-        Mode::Ber,
-        &[0x30, 0x06, 0x06, 0x02, 0x2A, 0x03, 0x05, 0x00],
-    ),
-    (
-        &[0x30, 0x04, 0x06, 0x02, 0x2A, 0x03],
-        Mode::Der,
-        &[0x30, 0x04, 0x06, 0x02, 0x2A, 0x03],
-    ),
-    // what is kept is written as it was
-    (
-        &[
-            0x30, 0x80, 0x06, 0x02, 0x2A, 0x03, 0x30, 0x80, 0x02, 0x01, 0x05, 0x00, 0x00, 0x00,
-            0x00,
-        ],
-        Mode::Ber,
-        &[
-            0x30, 0x0B, 0x06, 0x02, 0x2A, 0x03, 0x30, 0x80, 0x02, 0x01, 0x05, 0x00, 0x00,
-        ],
-    ),
-];
-
 /// The mode in which a value is kept, another mode, and what becomes of it in that.
 const MODES: [(Mode, Mode, &str); 9] = [
     (Mode::Ber, Mode::Ber, "kept"),
@@ -215,8 +212,7 @@ fn written(rt: &impl Abort, alloc: Global, kept: Mode, mode: Mode) -> &'static s
 }
 
 #[test]
-fn it_is_written_as_it_was(rt: HostRuntime) {
-    rewrites::<AlgorithmIdentifier>(&rt, rt.alloc(), &WRITTEN);
+fn it_is_written_in_its_own_mode(rt: HostRuntime) {
     for (kept, mode, wanted) in &MODES {
         let found = written(&rt, rt.alloc(), *kept, *mode);
         assert_eq!(rt; found, *wanted, "{kept:?} in {mode:?}");

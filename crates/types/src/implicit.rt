@@ -1,5 +1,5 @@
 //! Implicit tags. Expected values are worked by hand from X.690, 8.14.
-use crate::rows::{Read, Written, rewrites, takes};
+use crate::rows::{Read, Written, rewrites, takes, takes_and_rewrites};
 use asn1::{Application, Context, DecodeDefinition, Definition, Explicit, Implicit, Sequence};
 use bcder::Mode;
 use bcder::decode::Source;
@@ -15,9 +15,16 @@ const NUMBER: [Read; 4] = [
     (Mode::Ber, &[0x80, 0x00], "refused"),
 ];
 
+const NUMBER_WRITTEN: [Written; 3] = [
+    (&[0x80, 0x01, 0x05], Mode::Ber, &[0x80, 0x01, 0x05]),
+    (&[0x80, 0x01, 0x05], Mode::Der, &[0x80, 0x01, 0x05]),
+    (&[0x80, 0x01, 0x05], Mode::Cer, &[0x80, 0x01, 0x05]),
+];
+
+// X.690, 8.14.4
 #[test]
 fn the_tag_replaces_the_types_own(rt: HostRuntime) {
-    takes::<Number>(&rt, rt.alloc(), &NUMBER);
+    takes_and_rewrites::<Number>(&rt, rt.alloc(), &NUMBER, &NUMBER_WRITTEN);
 }
 
 /// `Version ::= [APPLICATION 2] IMPLICIT INTEGER`.
@@ -68,12 +75,6 @@ fn constructed_types_are_tagged(rt: HostRuntime) {
     takes::<Implicit<Context<1>, Explicit<Context<2>, u32>>>(&rt, rt.alloc(), &EXPLICIT);
 }
 
-const NUMBER_WRITTEN: [Written; 3] = [
-    (&[0x80, 0x01, 0x05], Mode::Ber, &[0x80, 0x01, 0x05]),
-    (&[0x80, 0x01, 0x05], Mode::Der, &[0x80, 0x01, 0x05]),
-    (&[0x80, 0x01, 0x05], Mode::Cer, &[0x80, 0x01, 0x05]),
-];
-
 /// `[2] IMPLICIT SEQUENCE { INTEGER, INTEGER }`.
 const FIELDS: &[u8] = &[0xA2, 0x06, 0x02, 0x01, 0x05, 0x02, 0x01, 0x06];
 
@@ -103,7 +104,6 @@ const TAGGED_WRITTEN: [Written; 3] = [
 // X.690, 8.14.4
 #[test]
 fn the_implicit_tag_is_written(rt: HostRuntime) {
-    rewrites::<Number>(&rt, rt.alloc(), &NUMBER_WRITTEN);
     rewrites::<Implicit<Context<2>, Sequence<(u32, u32)>>>(&rt, rt.alloc(), &FIELDS_WRITTEN);
     rewrites::<Implicit<Context<1>, Explicit<Context<0>, u32>>>(&rt, rt.alloc(), &TAGGED_WRITTEN);
 }

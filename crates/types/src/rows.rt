@@ -123,6 +123,29 @@ pub fn takes<'a, T: Decode<SliceSource<'a>> + Debug>(
     }
 }
 
+/// Reads the octets of some rows, and writes the values of others. A call costs a proof by its type,
+/// so both are one.
+pub fn reads_and_rewrites<'a, T: Encode + Decode<SliceSource<'a>> + Debug>(
+    rt: &impl Abort,
+    alloc: Global,
+    rows: &[Read<'a>],
+    written: &[Written<'a>],
+) {
+    reads::<T>(rt, alloc, rows);
+    rewrites::<T>(rt, alloc, written);
+}
+
+/// Takes the values of some rows, and writes those of others.
+pub fn takes_and_rewrites<'a, T: Encode + Decode<SliceSource<'a>> + Debug>(
+    rt: &impl Abort,
+    alloc: Global,
+    rows: &[Read<'a>],
+    written: &[Written<'a>],
+) {
+    takes::<T>(rt, alloc, rows);
+    rewrites::<T>(rt, alloc, written);
+}
+
 /// Asserts that a value is written as these octets.
 pub fn writes<T: Encode>(rt: &impl Abort, alloc: Global, value: &T, mode: Mode, wanted: &[u8]) {
     let found = done(rt, encode(alloc, mode, value));

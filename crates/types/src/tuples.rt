@@ -1,5 +1,5 @@
 //! Fields in a row. Expected values are worked by hand from X.690, 8.9.
-use crate::rows::{Read, Written, rewrites, takes};
+use crate::rows::{Read, Written, rewrites, takes, takes_and_rewrites};
 use asn1::{Context, Implicit, Sequence};
 use bcder::Mode;
 
@@ -68,8 +68,7 @@ const TWELVE_WRITTEN: [Written; 2] = [
 
 #[test]
 fn twelve_fields_are_read_and_written_in_order(rt: HostRuntime) {
-    takes::<Twelve>(&rt, rt.alloc(), &ARE_TWELVE);
-    rewrites::<Twelve>(&rt, rt.alloc(), &TWELVE_WRITTEN);
+    takes_and_rewrites::<Twelve>(&rt, rt.alloc(), &ARE_TWELVE, &TWELVE_WRITTEN);
 }
 
 /// A number, a truth value and a number.
