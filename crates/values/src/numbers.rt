@@ -421,7 +421,7 @@ enum Skip {
 }
 
 /// Skips a number.
-fn skip<S: Source>(
+fn skip_number<S: Source>(
     cons: &mut Constructed<'_, S>,
     call: Skip,
     number: u8,
@@ -438,7 +438,8 @@ fn skip<S: Source>(
 /// Returns whether a call skips a number.
 fn is_skipped(value: &[u8], mode: Mode, call: Skip, number: u8) -> bool {
     let source = SliceSource::new(value);
-    mode.decode(source, |cons| skip(cons, call, number)).is_ok()
+    mode.decode(source, |cons| skip_number(cons, call, number))
+        .is_ok()
 }
 
 /// Compares the calls that skip this number.

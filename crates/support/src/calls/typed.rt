@@ -48,7 +48,7 @@ where
     u64: From<T>,
 {
     match number {
-        Some(number) => Some(u64::from(number) == u64::from(FIVE)),
+        Some(number) => Some(u64::from(number) == 5),
         None => None,
     }
 }
