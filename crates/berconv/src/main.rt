@@ -26,7 +26,7 @@ Without FILE, or where it is -, standard input is read.
   --                  what follows is no option
 
 The status is 0 if the values were written, 1 if the octets are no values in the rules of --from, if
-a value isn't converted, or if memory ran out, 2 if a file isn't read or written, or for wrong usage.
+a value isn't converted or memory ran out, and 2 if a file isn't read or written, or on wrong usage.
 ";
 
 /// What `--version` writes.
