@@ -2,7 +2,6 @@
 ghost use Rattle.std.specs.Prelude.{◌≡◌, OnOk, OnErr, IfOk, IfErr, string_bytes};
 ghost use Rattle.std.specs.Io.KnownBytes.{Appends};
 ghost use Rattle.bcder.specs.calls.Target.{AppendsFront};
-ghost use Rattle.berconv.specs.declared.run.Refusal.TheVariants.{NoMemory as IsNoMemory};
 ghost use Rattle.berconv.specs.Ends.{Ends, IsRefused, Puts, RefusedWith, place_text};
 ghost use Rattle.encodings.specs.Conversion.{IsConversion};
 ghost use Rattle.encodings.specs.Values.{AreNoValues};
