@@ -15,7 +15,7 @@ pub trait Document: Decode<BytesSource> + Encode {
 }
 
 /// What was read and compared.
-#[derive(Debug, Drop)]
+#[derive(Drop)]
 pub struct Report {
     /// The fields of the documents, each on a line.
     pub text: String,

@@ -13,7 +13,7 @@ use lines::tally::{Differing, Tally, differ_in};
 use std::alloc::Global;
 
 /// What was compared.
-#[derive(Clone, Copy, Debug, Default)]
+#[derive(Clone, Copy, Default)]
 pub struct Tallies {
     /// Values that were read, or refused.
     pub read: Tally,
