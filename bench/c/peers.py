@@ -27,7 +27,8 @@ def of_pyasn1(octets):
     from pyasn1.type.base import ConstructedAsn1Type
 
     def met(value):
-        return 1 + (sum(map(met, value.values())) if isinstance(value, ConstructedAsn1Type) else 0)
+        inside = value.values() if hasattr(value, "values") else value
+        return 1 + (sum(map(met, inside)) if isinstance(value, ConstructedAsn1Type) else 0)
 
     value, rest = decoder.decode(octets)
     assert not rest
