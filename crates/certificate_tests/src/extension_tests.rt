@@ -29,10 +29,10 @@ const CONSTRAINTS: [(Mode, &[u8], Option<Constraints>); 5] = [
 
 /// Returns the constraints that octets are.
 fn constraints_of(alloc: Global, mode: Mode, octets: &[u8]) -> Option<Constraints> {
-    match decode::<BasicConstraints, &[u8]>(alloc, mode, octets) {
-        Ok(constraints) => Some((constraints.ca.value, constraints.path_len)),
-        Err(_) => None,
-    }
+    let Ok(constraints) = decode::<BasicConstraints, &[u8]>(alloc, mode, octets) else {
+        return None;
+    };
+    Some((constraints.ca.value, constraints.path_len))
 }
 
 #[test]
