@@ -1,4 +1,9 @@
 //! Where in a value of a type something was refused.
+ghost use Rattle.std.specs.Prelude.{◌≡◌, ◌==◌, ◌&&◌, ◌||◌, false, not, length, []};
+ghost use Rattle.std.specs.List.{list_any};
+ghost use Rattle.std.specs.Fmt.{WritesOnOk};
+ghost use Rattle.asn1.specs.Paths.{IsSettled, expected_text, is_shown_step, tags_text};
+
 use crate::{Part, Trace};
 use bcder::Tag;
 use bytes::ByteStr;
@@ -38,7 +43,13 @@ pub struct Path {
 
 impl Path {
     /// The path to a whole value of the type with this name.
-    pub(crate) fn new(alloc: Global, name: &'static str) -> Path {
+    pub(crate) fn new(alloc: Global, name: &'static str) -> Path
+        ensures name { result.name ≡ name.now }
+        ensures steps { result.steps.items ≡ [] }
+        ensures expected { result.expected.items ≡ [] }
+        ensures any { result.any_expected ≡ false }
+        ensures cut { result.is_cut ≡ false }
+    {
         Path {
             name: ByteStr::from_static(name),
             steps: Vec::new(alloc),
@@ -49,8 +60,18 @@ impl Path {
     }
 
     /// Returns whether it shows nothing: neither a type nor a part.
-    pub(crate) fn is_empty(&self) -> bool {
-        self.name.is_empty() && !self.steps.iter().any(|step| is_shown(step))
+    pub(crate) fn is_empty(&self) -> bool
+        ensures { result ≡ (length self.now.name == 0
+            && not (list_any is_shown_step self.now.steps.items)) }
+    {
+        self.name.is_empty() && !self.has_shown_step()
+    }
+
+    /// Returns whether a step is shown.
+    fn has_shown_step(&self) -> bool
+        ensures { result ≡ list_any is_shown_step self.now.steps.items }
+    {
+        self.steps.iter().any(|step| is_shown(step))
     }
 
     /// Counts so many fields in front of that to which it leads.
@@ -131,7 +152,9 @@ impl Path {
     }
 
     /// Forgets all but the name, if memory ran out while the part was looked for.
-    pub(crate) fn settle(&mut self, is_known: bool) {
+    pub(crate) fn settle(&mut self, is_known: bool)
+        ensures { IsSettled is_known self.old self.new }
+    {
         if self.is_cut || !is_known {
             self.steps.clear();
             self.expected.clear();
@@ -140,23 +163,22 @@ impl Path {
     }
 
     /// Returns whether it is known what was expected.
-    pub(crate) fn has_expected(&self) -> bool {
+    pub(crate) fn has_expected(&self) -> bool
+        ensures { result ≡ (self.now.any_expected
+            || not (length self.now.expected.items == 0)) }
+    {
         self.any_expected || !self.expected.is_empty()
     }
 
-    /// Writes `INTEGER`, `INTEGER or NULL`, or `INTEGER, NULL or [0]`.
-    pub(crate) fn write_expected<W: fmt::Write>(&self, f: &mut fmt::Formatter<W>) -> fmt::Result {
+    /// Writes what was expected.
+    pub(crate) fn write_expected<W: fmt::Write>(&self, f: &mut fmt::Formatter<W>) -> fmt::Result
+        ensures { WritesOnOk W.write_str_gives f.old result (expected_text self.now) f.new }
+    {
         if self.any_expected {
-            return write!(f, "a value");
+            write!(f, "a value")
+        } else {
+            write_tags(self.expected.as_slice(), f)
         }
-        let count = self.expected.len();
-        for (index, tag) in self.expected.iter().enumerate() {
-            if index > 0 {
-                write!(f, "{}", if index + 1 == count { " or " } else { ", " })?;
-            }
-            write!(f, "{tag}")?;
-        }
-        Ok(())
     }
 }
 
@@ -189,10 +211,27 @@ impl Trace for Path {
 }
 
 /// Returns whether a step is written. That to an alternative without a name isn't.
-fn is_shown(step: &Step) -> bool {
+fn is_shown(step: &Step) -> bool
+    ensures { result ≡ is_shown_step step.now }
+{
     match step {
         Step::First | Step::Second => false,
         _ => true,
+    }
+}
+
+/// Writes `INTEGER`, `INTEGER or NULL`, or `INTEGER, NULL or [0]`.
+fn write_tags<W: fmt::Write>(tags: &[Tag], f: &mut fmt::Formatter<W>) -> fmt::Result
+    ensures { WritesOnOk W.write_str_gives f.old result (tags_text tags.now) f.new }
+{
+    match tags {
+        [] => Ok(()),
+        [tag] => write!(f, "{tag}"),
+        [tag, last] => write!(f, "{tag} or {last}"),
+        [tag, others @ ..] => {
+            write!(f, "{tag}, ")?;
+            write_tags(others, f)
+        }
     }
 }
 

@@ -8,7 +8,7 @@ ghost use Rattle.bcder.specs.x690.Identifier.{integer_tag};
 ghost use Rattle.asn1.specs.Types.{IsLeaf, Only};
 ghost use Rattle.asn1.specs.Tags.{integer_tagged, only_tagged};
 
-use crate::{Decode, Trace, Type};
+use crate::{Decode, Part, Trace, Type};
 use bcder::Tag;
 use bcder::decode::{Constructed, DecodeError, Source};
 use std::alloc::Global;
@@ -19,6 +19,10 @@ impl Type for u8 {
     #[inline(always)]
     fn tag() -> Tag {
         Tag::INTEGER
+    }
+
+    fn expect<P: Trace>(path: &mut P) {
+        path.note(Part::Expected(Self::tag()));
     }
 
     ghost tags = { Only };
@@ -56,6 +60,10 @@ impl Type for u16 {
         Tag::INTEGER
     }
 
+    fn expect<P: Trace>(path: &mut P) {
+        path.note(Part::Expected(Self::tag()));
+    }
+
     ghost tags = { Only };
 
     ghost Key = { ℕ };
@@ -89,6 +97,10 @@ impl Type for u32 {
     #[inline(always)]
     fn tag() -> Tag {
         Tag::INTEGER
+    }
+
+    fn expect<P: Trace>(path: &mut P) {
+        path.note(Part::Expected(Self::tag()));
     }
 
     ghost tags = { Only };
@@ -126,6 +138,10 @@ impl Type for u64 {
         Tag::INTEGER
     }
 
+    fn expect<P: Trace>(path: &mut P) {
+        path.note(Part::Expected(Self::tag()));
+    }
+
     ghost tags = { Only };
 
     ghost Key = { ℕ };
@@ -159,6 +175,10 @@ impl Type for u128 {
     #[inline(always)]
     fn tag() -> Tag {
         Tag::INTEGER
+    }
+
+    fn expect<P: Trace>(path: &mut P) {
+        path.note(Part::Expected(Self::tag()));
     }
 
     ghost tags = { Only };
@@ -196,6 +216,10 @@ impl Type for i8 {
         Tag::INTEGER
     }
 
+    fn expect<P: Trace>(path: &mut P) {
+        path.note(Part::Expected(Self::tag()));
+    }
+
     ghost tags = { Only };
 
     ghost Key = { ℤ };
@@ -229,6 +253,10 @@ impl Type for i16 {
     #[inline(always)]
     fn tag() -> Tag {
         Tag::INTEGER
+    }
+
+    fn expect<P: Trace>(path: &mut P) {
+        path.note(Part::Expected(Self::tag()));
     }
 
     ghost tags = { Only };
@@ -266,6 +294,10 @@ impl Type for i32 {
         Tag::INTEGER
     }
 
+    fn expect<P: Trace>(path: &mut P) {
+        path.note(Part::Expected(Self::tag()));
+    }
+
     ghost tags = { Only };
 
     ghost Key = { ℤ };
@@ -301,6 +333,10 @@ impl Type for i64 {
         Tag::INTEGER
     }
 
+    fn expect<P: Trace>(path: &mut P) {
+        path.note(Part::Expected(Self::tag()));
+    }
+
     ghost tags = { Only };
 
     ghost Key = { ℤ };
@@ -334,6 +370,10 @@ impl Type for i128 {
     #[inline(always)]
     fn tag() -> Tag {
         Tag::INTEGER
+    }
+
+    fn expect<P: Trace>(path: &mut P) {
+        path.note(Part::Expected(Self::tag()));
     }
 
     ghost tags = { Only };
