@@ -1,11 +1,14 @@
 //! Where in a value of a type something was refused.
-ghost use Rattle.std.specs.Prelude.{◌≡◌, ◌==◌, ◌&&◌, ◌||◌, false, not, length, []};
+ghost use Rattle.std.specs.Prelude.{◌≡◌, false, [], Some};
 ghost use Rattle.std.specs.List.{list_any};
-ghost use Rattle.std.specs.Fmt.{WritesOnOk};
-ghost use Rattle.asn1.specs.Paths.{IsSettled, expected_text, is_shown_step, tags_text};
+ghost use Rattle.std.specs.Fmt.{DisplaysOnOk, WritesOnOk};
+ghost use Rattle.asn1.specs.Paths.{IsSettled, is_shown_step, shows_nothing, knows_expected};
+ghost use Rattle.asn1.specs.Paths.{step_text, steps_text, path_text, tags_text, expected_text};
+ghost use Rattle.asn1.specs.Paths.{place_text, reason_text};
 
 use crate::{Part, Trace};
 use bcder::Tag;
+use bcder::decode::ContentError;
 use bytes::ByteStr;
 use std::alloc::Global;
 use std::fmt;
@@ -61,8 +64,7 @@ impl Path {
 
     /// Returns whether it shows nothing: neither a type nor a part.
     pub(crate) fn is_empty(&self) -> bool
-        ensures { result ≡ (length self.now.name == 0
-            && not (list_any is_shown_step self.now.steps.items)) }
+        ensures { result ≡ shows_nothing self.now }
     {
         self.name.is_empty() && !self.has_shown_step()
     }
@@ -164,8 +166,7 @@ impl Path {
 
     /// Returns whether it is known what was expected.
     pub(crate) fn has_expected(&self) -> bool
-        ensures { result ≡ (self.now.any_expected
-            || not (length self.now.expected.items == 0)) }
+        ensures { result ≡ knows_expected self.now }
     {
         self.any_expected || !self.expected.is_empty()
     }
@@ -178,6 +179,34 @@ impl Path {
             write!(f, "a value")
         } else {
             write_tags(self.expected.as_slice(), f)
+        }
+    }
+
+    /// Writes the path and a space, if it shows something.
+    pub(crate) fn write_place<W: fmt::Write>(&self, f: &mut fmt::Formatter<W>) -> fmt::Result
+        ensures { WritesOnOk W.write_str_gives f.old result (place_text self.now) f.new }
+    {
+        if self.is_empty() {
+            Ok(())
+        } else {
+            write!(f, "{self} ")
+        }
+    }
+
+    /// Writes what was expected, if it is known, and else the error.
+    pub(crate) fn write_reason<W: fmt::Write>(
+        &self,
+        error: &ContentError,
+        f: &mut fmt::Formatter<W>,
+    ) -> fmt::Result
+        ensures { DisplaysOnOk W.write_str_gives f.old result
+            (reason_text self.now (⟦<ContentError as fmt::Display>⟧.output error.now)) f.new }
+    {
+        if self.has_expected() {
+            write!(f, "expected ")?;
+            self.write_expected(f)
+        } else {
+            write!(f, "{error}")
         }
     }
 }
@@ -236,7 +265,9 @@ fn write_tags<W: fmt::Write>(tags: &[Tag], f: &mut fmt::Formatter<W>) -> fmt::Re
 }
 
 /// Writes one step.
-fn write_step<W: fmt::Write>(step: &Step, f: &mut fmt::Formatter<W>) -> fmt::Result {
+fn write_step<W: fmt::Write>(step: &Step, f: &mut fmt::Formatter<W>) -> fmt::Result
+    ensures { WritesOnOk W.write_str_gives f.old result (step_text step.now) f.new }
+{
     match step {
         Step::Named(name) => write!(f, ".{}", name.as_str()),
         Step::Field(index) => write!(f, ".{index}"),
@@ -245,13 +276,25 @@ fn write_step<W: fmt::Write>(step: &Step, f: &mut fmt::Formatter<W>) -> fmt::Res
     }
 }
 
+/// Writes steps, from the outermost, which is the last.
+fn write_steps<W: fmt::Write>(steps: &[Step], f: &mut fmt::Formatter<W>) -> fmt::Result
+    ensures { WritesOnOk W.write_str_gives f.old result (steps_text steps.now) f.new }
+{
+    match steps {
+        [] => Ok(()),
+        [inner, outer @ ..] => {
+            write_steps(outer, f)?;
+            write_step(inner, f)
+        }
+    }
+}
+
 /// Writes the name of the type, and then the steps from it to the part.
 impl fmt::Display for Path {
+    ghost output = { λ p. Some (path_text p) };
+
     fn fmt<W: fmt::Write>(&self, f: &mut fmt::Formatter<W>) -> fmt::Result {
         write!(f, "{}", self.name.as_str())?;
-        for step in self.steps.iter().rev() {
-            write_step(step, f)?;
-        }
-        Ok(())
+        write_steps(self.steps.as_slice(), f)
     }
 }
