@@ -1,4 +1,5 @@
 pub mod Typed
+pub mod Traced
 pub mod Lacking
 pub mod Members
 pub mod Reading

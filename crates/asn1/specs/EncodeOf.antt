@@ -1,13 +1,16 @@
 -- What a type that writes itself says of its values: the members of `Encode` and of `Type`.
+use Rattle.std.specs.Prelude.{List}
 use Rattle.bcder.specs.declared.mode.Mode.{Mode}
 use Rattle.bcder.specs.x690.Identifier.{Tag}
 use Rattle.bcder.specs.x690.Tree.{Tree}
 use Rattle.bcder.specs.calls.Meaning.{Meaning}
+use Rattle.asn1.specs.declared.trace.Part.{Part}
 
 -- as `⟦<A as Encode>⟧` has them
 abbrev pub EncodeOf : Type 0 → Type 1
 EncodeOf A = record {
   TAG : Tag;
+  expects : Tag → List Part;
   tags : Tag → Tag → Type 0;
   Key : Type 0;
   key : A → Key;

@@ -1,4 +1,6 @@
 pub mod Types
+pub mod Tracing
+pub mod Paths
 pub mod Decoded
 pub mod Tags
 pub mod Keys

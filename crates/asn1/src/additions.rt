@@ -24,6 +24,10 @@ impl Fields for ExtensionAdditions {
 
     ghost keep_all = { ⊥ };
 
+    fn count() -> usize {
+        1
+    }
+
     fn fields_are_one() {}
 }
 

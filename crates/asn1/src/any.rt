@@ -1,5 +1,5 @@
 //! A value of any type, kept as its encoding.
-ghost use Rattle.std.specs.Prelude.{◌≡◌, IfOk, IfErr, Option, true};
+ghost use Rattle.std.specs.Prelude.{◌≡◌, IfOk, IfErr, Option, true, [], ◌∷◌};
 ghost use Rattle.bcder.specs.calls.Captured.{kept_stream};
 ghost use Rattle.bcder.specs.calls.CapturingValues.{CapturedNext, ExactlyNextCaptured};
 ghost use Rattle.bcder.specs.calls.Gathered.{KeptMeans};
@@ -10,6 +10,7 @@ ghost use Rattle.bcder.specs.x690.Tree.{Tree};
 ghost use Rattle.asn1.specs.Anything.{Every, IsOneValue, KeepsValue, kept_value};
 ghost use Rattle.asn1.specs.Decoded.{IsValueOf, RefusesAll};
 ghost use Rattle.asn1.specs.Tags.{null_tagged};
+ghost use Rattle.asn1.specs.declared.trace.Part.TheVariants.{AnyExpected};
 
 use crate::{Decode, Encode, Part, Trace, Type, decode};
 use bcder::decode::{BytesSource, Constructed, DecodeError, Source};
@@ -149,6 +150,8 @@ impl Type for Any {
     fn tag() -> Tag {
         Tag::NULL
     }
+
+    ghost expects = { λ _. AnyExpected ∷ [] };
 
     fn expect<P: Trace>(path: &mut P) {
         path.note(Part::AnyExpected);

@@ -19,6 +19,8 @@ impl<T: Type> Type for Box<T> {
 
     const NAME: &'static str = T::NAME;
 
+    ghost expects = { T.expects };
+
     fn expect<P: Trace>(path: &mut P) {
         T::expect(path);
     }

@@ -1,6 +1,6 @@
 //! One of several types: CHOICE (X.680, 29; X.690, 8.13).
 ghost use Rattle.std.proofs.Common.{inl};
-ghost use Rattle.std.specs.Prelude.{◌||◌};
+ghost use Rattle.std.specs.Prelude.{◌||◌, ◌++◌};
 ghost use Rattle.bcder.specs.calls.Views.{Moved};
 ghost use Rattle.asn1.specs.Types.{TookNextTyped};
 ghost use Rattle.asn1.specs.Choices.{EitherTag, IsChoice, choice_key, either_tagged};
@@ -32,6 +32,9 @@ impl<A: Type, B: Type> Type for Choice2<A, B> {
         A::tag()
     }
 
+    ghost expects = { λ _. A.expects A.TAG ++ B.expects B.TAG };
+
+    #[tactic(auto, using(crate::proofs::Traced::noted_both))]
     fn expect<P: Trace>(path: &mut P) {
         A::expect(path);
         B::expect(path);

@@ -89,6 +89,10 @@ impl<T: Type, D: DefaultValue<T>> Fields for OrDefault<T, D> {
 
     ghost keep_all = { T.keeps_all };
 
+    fn count() -> usize {
+        1
+    }
+
     fn fields_are_one() {
         T::values_are_one();
     }

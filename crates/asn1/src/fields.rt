@@ -2,7 +2,7 @@
 ghost use Rattle.bcder.specs.declared.mode.Mode.{Mode};
 ghost use Rattle.bcder.specs.x690.Tree.{Trees};
 ghost use Rattle.bcder.specs.calls.Views.{Moved};
-ghost use Rattle.std.specs.Prelude.{⊤, ◌≢◌, ◌||◌, Bool, false, Option};
+ghost use Rattle.std.specs.Prelude.{⊤, ◌≢◌, ◌≡◌, ◌||◌, ◌+◌, ◌-◌, ◌^◌, ℕ, min, Bool, false, Option};
 ghost use Rattle.bcder.specs.declared.mode.Mode.TheVariants.{Ber};
 ghost use Rattle.asn1.specs.Types.{TookFields, IsMember, IsOptional, AreBoth};
 ghost use Rattle.asn1.specs.Keys.{TakeOne, LeaveEncodings, AreTakenOnce, option_key};
@@ -26,9 +26,11 @@ pub trait Fields: Drop + Sized {
     ghost keep_all: { Type 0 } = { ⊤ };
 
     /// How many fields they are, for errors. By default they are one.
-    fn count() -> usize {
-        1
-    }
+    ghost count: { ℕ } = { 1 };
+
+    /// Returns how many fields they are.
+    fn count() -> usize
+        ensures { result ≡ count };
 
     /// A law: they take one thing at most, and leave one; and in CER and DER fields that are told
     /// apart by the same, with the same behind them, are the same values, if all is kept.
@@ -87,6 +89,10 @@ impl<T: Type> Fields for T {
 
     ghost keep_all = { T.keeps_all };
 
+    fn count() -> usize {
+        1
+    }
+
     fn fields_are_one() {
         T::values_are_one();
     }
@@ -126,6 +132,10 @@ impl<T: Type> Fields for Option<T> {
 
     ghost keep_all = { T.keeps_all };
 
+    fn count() -> usize {
+        1
+    }
+
     fn fields_are_one() {
         T::values_are_one();
     }
@@ -155,6 +165,8 @@ impl<A: Fields, B: Fields> Fields for (A, B) {
     ghost takes = { λ mode ts x us. AreBoth (A.takes mode) (B.takes mode) ts x.0 x.1 us };
 
     ghost keep_all = { A.keep_all × B.keep_all };
+
+    ghost count = { min (A.count + B.count) (2 ^ 64 - 1) };
 
     fn count() -> usize {
         A::count().saturating_add(B::count())

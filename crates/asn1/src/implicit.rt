@@ -7,7 +7,7 @@ ghost use Rattle.asn1.specs.Tags.{only_tagged};
 ghost use Rattle.asn1.specs.Markers.{IsFixed, only_fixed};
 
 use crate::{
-    Decode, Explicit, Fields, FromContents, Leaf, OctetStringRef, Parts, RestrictedStringRef,
+    Decode, Explicit, Fields, FromContents, Leaf, OctetStringRef, Part, Parts, RestrictedStringRef,
     Sequence, SequenceTag, TagMarker, TaggedCharSet, Trace, Type,
 };
 use bcder::decode::{Constructed, DecodeError, Source};
@@ -170,6 +170,10 @@ impl<M: TagMarker, T: FixedTag> Type for Implicit<M, T> {
     #[inline(always)]
     fn tag() -> Tag {
         M::tag()
+    }
+
+    fn expect<P: Trace>(path: &mut P) {
+        path.note(Part::Expected(Self::tag()));
     }
 
     ghost tags = { Only };

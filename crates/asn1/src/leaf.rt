@@ -10,7 +10,7 @@ ghost use Rattle.asn1.specs.Types.{IsLeaf, Only, TookNextTyped};
 ghost use Rattle.asn1.specs.Told.{MeansOrNothing};
 ghost use Rattle.asn1.specs.Tags.{only_tagged};
 
-use crate::{Decode, Trace, Type};
+use crate::{Decode, Part, Trace, Type};
 use bcder::decode::{Constructed, ContentError, DecodeError, Primitive, Source};
 use bcder::{Mode, Tag};
 use std::alloc::Global;
@@ -98,6 +98,10 @@ impl<V: FromContents> Type for Leaf<V> {
     #[inline(always)]
     fn tag() -> Tag {
         V::tag()
+    }
+
+    fn expect<P: Trace>(path: &mut P) {
+        path.note(Part::Expected(Self::tag()));
     }
 
     ghost tags = { Only };

@@ -10,7 +10,7 @@ ghost use Rattle.asn1.specs.Tags.{octet_string_tagged, only_tagged};
 
 mod characters;
 
-use crate::{Decode, Trace, Type};
+use crate::{Decode, Part, Trace, Type};
 use bcder::decode::{Constructed, ContentError, DecodeError, LendingSource, Primitive};
 use bcder::{Mode, Tag};
 pub use characters::{
@@ -41,6 +41,10 @@ impl<L: AsSlice<u8> + Copy + Drop> Type for OctetStringRef<L> {
     #[inline(always)]
     fn tag() -> Tag {
         Tag::OCTET_STRING
+    }
+
+    fn expect<P: Trace>(path: &mut P) {
+        path.note(Part::Expected(Self::tag()));
     }
 
     ghost tags = { Only };

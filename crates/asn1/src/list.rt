@@ -43,6 +43,10 @@ impl<T: Type> Type for SequenceOf<T> {
         Tag::SEQUENCE
     }
 
+    fn expect<P: Trace>(path: &mut P) {
+        path.note(Part::Expected(Self::tag()));
+    }
+
     ghost tags = { Only };
 
     ghost Key = { List T.Key };
@@ -97,6 +101,10 @@ impl<T: Type> Fields for Vec<T> {
     ghost takes = { λ mode ts x us. AreList (T.tags T.TAG) (T.means mode) ts x.items us };
 
     ghost keep_all = { T.keeps_all };
+
+    fn count() -> usize {
+        1
+    }
 
     fn fields_are_one() {
         T::values_are_one();

@@ -8,7 +8,7 @@ ghost use Rattle.asn1.specs.Tags.{identifier_tagged, only_tagged};
 ghost use Rattle.asn1.specs.Markers.{only_fixed};
 
 use crate::writers::Encode;
-use crate::{Decode, FixedTag, Trace, Type};
+use crate::{Decode, FixedTag, Part, Trace, Type};
 use bcder::decode::{Constructed, DecodeError, Source};
 use bcder::encode::{EncodeError, WriteError};
 use bcder::{Mode, Oid, Tag};
@@ -42,6 +42,10 @@ impl Type for ObjectIdentifier {
     #[inline(always)]
     fn tag() -> Tag {
         Tag::OID
+    }
+
+    fn expect<P: Trace>(path: &mut P) {
+        path.note(Part::Expected(Self::tag()));
     }
 
     ghost tags = { Only };

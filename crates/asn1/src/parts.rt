@@ -9,7 +9,7 @@ ghost use Rattle.asn1.specs.Keys.{MeansOne, IsMeantOnce};
 ghost use Rattle.asn1.specs.Tags.{only_tagged, sequence_tagged};
 ghost use Rattle.asn1.specs.declared.types.Type.{Ghosts as TypeOf};
 
-use crate::{Decode, Trace, Type};
+use crate::{Decode, Part, Trace, Type};
 use bcder::Tag;
 use bcder::decode::{Constructed, DecodeError, Source};
 use std::alloc::Global;
@@ -60,6 +60,8 @@ impl<D: Parts> Type for D {
     }
 
     const NAME: &'static str = D::NAME;
+
+    ghost expects = { D.Tags.expects };
 
     fn expect<P: Trace>(path: &mut P) {
         <D::Tags>::expect(path);
@@ -138,6 +140,10 @@ impl Type for SequenceTag {
     #[inline(always)]
     fn tag() -> Tag {
         Tag::SEQUENCE
+    }
+
+    fn expect<P: Trace>(path: &mut P) {
+        path.note(Part::Expected(Self::tag()));
     }
 
     ghost tags = { Only };

@@ -1,6 +1,14 @@
 //! Where in a value of a type something was refused.
+ghost use Rattle.std.specs.Prelude.{◌≡◌, false, [], Some};
+ghost use Rattle.std.specs.List.{list_any};
+ghost use Rattle.std.specs.Fmt.{DisplaysOnOk, WritesOnOk};
+ghost use Rattle.asn1.specs.Paths.{IsSettled, is_shown_step, shows_nothing, knows_expected};
+ghost use Rattle.asn1.specs.Paths.{step_text, steps_text, path_text, tags_text, expected_text};
+ghost use Rattle.asn1.specs.Paths.{place_text, reason_text};
+
 use crate::{Part, Trace};
 use bcder::Tag;
+use bcder::decode::ContentError;
 use bytes::ByteStr;
 use std::alloc::Global;
 use std::fmt;
@@ -38,7 +46,13 @@ pub struct Path {
 
 impl Path {
     /// The path to a whole value of the type with this name.
-    pub(crate) fn new(alloc: Global, name: &'static str) -> Path {
+    pub(crate) fn new(alloc: Global, name: &'static str) -> Path
+        ensures name { result.name ≡ name.now }
+        ensures steps { result.steps.items ≡ [] }
+        ensures expected { result.expected.items ≡ [] }
+        ensures any { result.any_expected ≡ false }
+        ensures cut { result.is_cut ≡ false }
+    {
         Path {
             name: ByteStr::from_static(name),
             steps: Vec::new(alloc),
@@ -49,8 +63,17 @@ impl Path {
     }
 
     /// Returns whether it shows nothing: neither a type nor a part.
-    pub(crate) fn is_empty(&self) -> bool {
-        self.name.is_empty() && !self.steps.iter().any(|step| is_shown(step))
+    pub(crate) fn is_empty(&self) -> bool
+        ensures { result ≡ shows_nothing self.now }
+    {
+        self.name.is_empty() && !self.has_shown_step()
+    }
+
+    /// Returns whether a step is shown.
+    fn has_shown_step(&self) -> bool
+        ensures { result ≡ list_any is_shown_step self.now.steps.items }
+    {
+        self.steps.iter().any(|step| is_shown(step))
     }
 
     /// Counts so many fields in front of that to which it leads.
@@ -131,7 +154,9 @@ impl Path {
     }
 
     /// Forgets all but the name, if memory ran out while the part was looked for.
-    pub(crate) fn settle(&mut self, is_known: bool) {
+    pub(crate) fn settle(&mut self, is_known: bool)
+        ensures { IsSettled is_known self.old self.new }
+    {
         if self.is_cut || !is_known {
             self.steps.clear();
             self.expected.clear();
@@ -140,23 +165,49 @@ impl Path {
     }
 
     /// Returns whether it is known what was expected.
-    pub(crate) fn has_expected(&self) -> bool {
+    pub(crate) fn has_expected(&self) -> bool
+        ensures { result ≡ knows_expected self.now }
+    {
         self.any_expected || !self.expected.is_empty()
     }
 
-    /// Writes `INTEGER`, `INTEGER or NULL`, or `INTEGER, NULL or [0]`.
-    pub(crate) fn write_expected<W: fmt::Write>(&self, f: &mut fmt::Formatter<W>) -> fmt::Result {
+    /// Writes what was expected.
+    pub(crate) fn write_expected<W: fmt::Write>(&self, f: &mut fmt::Formatter<W>) -> fmt::Result
+        ensures { WritesOnOk W.write_str_gives f.old result (expected_text self.now) f.new }
+    {
         if self.any_expected {
-            return write!(f, "a value");
+            write!(f, "a value")
+        } else {
+            write_tags(self.expected.as_slice(), f)
         }
-        let count = self.expected.len();
-        for (index, tag) in self.expected.iter().enumerate() {
-            if index > 0 {
-                write!(f, "{}", if index + 1 == count { " or " } else { ", " })?;
-            }
-            write!(f, "{tag}")?;
+    }
+
+    /// Writes the path and a space, if it shows something.
+    pub(crate) fn write_place<W: fmt::Write>(&self, f: &mut fmt::Formatter<W>) -> fmt::Result
+        ensures { WritesOnOk W.write_str_gives f.old result (place_text self.now) f.new }
+    {
+        if self.is_empty() {
+            Ok(())
+        } else {
+            write!(f, "{self} ")
         }
-        Ok(())
+    }
+
+    /// Writes what was expected, if it is known, and else the error.
+    pub(crate) fn write_reason<W: fmt::Write>(
+        &self,
+        error: &ContentError,
+        f: &mut fmt::Formatter<W>,
+    ) -> fmt::Result
+        ensures { DisplaysOnOk W.write_str_gives f.old result
+            (reason_text self.now (⟦<ContentError as fmt::Display>⟧.output error.now)) f.new }
+    {
+        if self.has_expected() {
+            write!(f, "expected ")?;
+            self.write_expected(f)
+        } else {
+            write!(f, "{error}")
+        }
     }
 }
 
@@ -189,15 +240,34 @@ impl Trace for Path {
 }
 
 /// Returns whether a step is written. That to an alternative without a name isn't.
-fn is_shown(step: &Step) -> bool {
+fn is_shown(step: &Step) -> bool
+    ensures { result ≡ is_shown_step step.now }
+{
     match step {
         Step::First | Step::Second => false,
         _ => true,
     }
 }
 
+/// Writes `INTEGER`, `INTEGER or NULL`, or `INTEGER, NULL or [0]`.
+fn write_tags<W: fmt::Write>(tags: &[Tag], f: &mut fmt::Formatter<W>) -> fmt::Result
+    ensures { WritesOnOk W.write_str_gives f.old result (tags_text tags.now) f.new }
+{
+    match tags {
+        [] => Ok(()),
+        [tag] => write!(f, "{tag}"),
+        [tag, last] => write!(f, "{tag} or {last}"),
+        [tag, others @ ..] => {
+            write!(f, "{tag}, ")?;
+            write_tags(others, f)
+        }
+    }
+}
+
 /// Writes one step.
-fn write_step<W: fmt::Write>(step: &Step, f: &mut fmt::Formatter<W>) -> fmt::Result {
+fn write_step<W: fmt::Write>(step: &Step, f: &mut fmt::Formatter<W>) -> fmt::Result
+    ensures { WritesOnOk W.write_str_gives f.old result (step_text step.now) f.new }
+{
     match step {
         Step::Named(name) => write!(f, ".{}", name.as_str()),
         Step::Field(index) => write!(f, ".{index}"),
@@ -206,13 +276,25 @@ fn write_step<W: fmt::Write>(step: &Step, f: &mut fmt::Formatter<W>) -> fmt::Res
     }
 }
 
+/// Writes steps, from the outermost, which is the last.
+fn write_steps<W: fmt::Write>(steps: &[Step], f: &mut fmt::Formatter<W>) -> fmt::Result
+    ensures { WritesOnOk W.write_str_gives f.old result (steps_text steps.now) f.new }
+{
+    match steps {
+        [] => Ok(()),
+        [inner, outer @ ..] => {
+            write_steps(outer, f)?;
+            write_step(inner, f)
+        }
+    }
+}
+
 /// Writes the name of the type, and then the steps from it to the part.
 impl fmt::Display for Path {
+    ghost output = { λ p. Some (path_text p) };
+
     fn fmt<W: fmt::Write>(&self, f: &mut fmt::Formatter<W>) -> fmt::Result {
         write!(f, "{}", self.name.as_str())?;
-        for step in self.steps.iter().rev() {
-            write_step(step, f)?;
-        }
-        Ok(())
+        write_steps(self.steps.as_slice(), f)
     }
 }

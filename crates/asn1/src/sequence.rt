@@ -5,7 +5,7 @@ ghost use Rattle.bcder.specs.calls.Views.{Moved};
 ghost use Rattle.asn1.specs.Types.{AreInside, Only, TookFields, TookNextTyped};
 ghost use Rattle.asn1.specs.Tags.{sequence_tagged, only_tagged};
 
-use crate::{Decode, DecodeFields, Fields, Trace, Type};
+use crate::{Decode, DecodeFields, Fields, Part, Trace, Type};
 use bcder::Tag;
 use bcder::decode::{Constructed, DecodeError, Source};
 use std::alloc::Global;
@@ -44,6 +44,10 @@ impl<F: Fields> Type for Sequence<F> {
     #[inline(always)]
     fn tag() -> Tag {
         Tag::SEQUENCE
+    }
+
+    fn expect<P: Trace>(path: &mut P) {
+        path.note(Part::Expected(Self::tag()));
     }
 
     ghost tags = { Only };

@@ -19,7 +19,7 @@ use crate::list::take_list;
 use crate::set_of::out_of_order;
 use crate::whole::decode_fields;
 use crate::writers::ByRef;
-use crate::{Any, Decode, DecodeFields, Fields, FixedTag, Trace, Type};
+use crate::{Any, Decode, DecodeFields, Fields, FixedTag, Part, Trace, Type};
 use bcder::decode::{BytesSource, Constructed, ContentError, DecodeError, IntoSource, Pos, Source};
 use bcder::plain::front_at;
 use bcder::{Captured, Mode, Tag};
@@ -49,6 +49,10 @@ impl<F: Fields> Type for Set<F> {
     #[inline(always)]
     fn tag() -> Tag {
         Tag::SET
+    }
+
+    fn expect<P: Trace>(path: &mut P) {
+        path.note(Part::Expected(Self::tag()));
     }
 
     ghost tags = { Only };

@@ -46,6 +46,10 @@ impl<T: Type> Type for SetOf<T> {
         Tag::SET
     }
 
+    fn expect<P: Trace>(path: &mut P) {
+        path.note(Part::Expected(Self::tag()));
+    }
+
     ghost tags = { Only };
 
     ghost Key = { AnyOrder T.Key };

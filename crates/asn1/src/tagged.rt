@@ -118,6 +118,10 @@ impl<M: TagMarker, T: Type> Type for Explicit<M, T> {
         M::tag()
     }
 
+    fn expect<P: Trace>(path: &mut P) {
+        path.note(Part::Expected(Self::tag()));
+    }
+
     ghost tags = { Only };
 
     ghost Key = { T.Key };

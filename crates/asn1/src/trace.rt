@@ -1,4 +1,7 @@
 //! What notes in which part of a value something was refused.
+ghost use Rattle.std.specs.Prelude.{◌≡◌, ⊤, true, false};
+ghost use Rattle.asn1.specs.declared.trace.Part.{Part as PartValue};
+
 use bcder::Tag;
 
 /// What an error passes on its way outwards, or what was expected where it began.
@@ -27,12 +30,19 @@ pub enum Part {
 ///
 /// A reader calls it only if something is refused.
 pub trait Trace {
+    /// What it becomes when a part is noted. By default nothing is said.
+    ghost noted: { Self → PartValue → Self → Type 0 } = { λ _ _ _. ⊤ };
+
     /// Notes what an error passes.
-    fn note(&mut self, part: Part);
+    fn note(&mut self, part: Part)
+        ensures { noted self.old part self.new };
 
     /// Notes what an error passes, if there is one.
     #[inline(always)]
-    final fn note_if(&mut self, is_refused: bool, part: Part) {
+    final fn note_if(&mut self, is_refused: bool, part: Part)
+        ensures noted { is_refused ≡ true → noted self.old part self.new }
+        ensures passed { is_refused ≡ false → self.new ≡ self.old }
+    {
         if is_refused {
             self.note(part);
         }

@@ -19,6 +19,8 @@ impl<A: Fields, B: Fields, C: Fields> Fields for (A, B, C) {
 
     ghost keep_all = { ⟦<(A, (B, C)) as Fields>⟧.keep_all };
 
+    ghost count = { ⟦<(A, (B, C)) as Fields>⟧.count };
+
     fn count() -> usize {
         <(A, (B, C))>::count()
     }
@@ -57,6 +59,8 @@ impl<A: Fields, B: Fields, C: Fields, D: Fields> Fields for (A, B, C, D) {
     ghost takes = { SeenAs first_of_4 ⟦<(A, (B, C, D)) as Fields>⟧.takes };
 
     ghost keep_all = { ⟦<(A, (B, C, D)) as Fields>⟧.keep_all };
+
+    ghost count = { ⟦<(A, (B, C, D)) as Fields>⟧.count };
 
     fn count() -> usize {
         <(A, (B, C, D))>::count()
@@ -101,6 +105,8 @@ impl<A: Fields, B: Fields, C: Fields, D: Fields, E: Fields> Fields for (A, B, C,
     ghost takes = { SeenAs first_of_5 ⟦<(A, (B, C, D, E)) as Fields>⟧.takes };
 
     ghost keep_all = { ⟦<(A, (B, C, D, E)) as Fields>⟧.keep_all };
+
+    ghost count = { ⟦<(A, (B, C, D, E)) as Fields>⟧.count };
 
     fn count() -> usize {
         <(A, (B, C, D, E))>::count()
@@ -147,6 +153,8 @@ impl<A: Fields, B: Fields, C: Fields, D: Fields, E: Fields, F: Fields> Fields
     ghost takes = { SeenAs first_of_6 ⟦<(A, (B, C, D, E, F)) as Fields>⟧.takes };
 
     ghost keep_all = { ⟦<(A, (B, C, D, E, F)) as Fields>⟧.keep_all };
+
+    ghost count = { ⟦<(A, (B, C, D, E, F)) as Fields>⟧.count };
 
     fn count() -> usize {
         <(A, (B, C, D, E, F))>::count()
@@ -195,6 +203,8 @@ impl<A: Fields, B: Fields, C: Fields, D: Fields, E: Fields, F: Fields, G: Fields
 
     ghost keep_all = { ⟦<(A, (B, C, D, E, F, G)) as Fields>⟧.keep_all };
 
+    ghost count = { ⟦<(A, (B, C, D, E, F, G)) as Fields>⟧.count };
+
     fn count() -> usize {
         <(A, (B, C, D, E, F, G))>::count()
     }
@@ -242,6 +252,8 @@ impl<A: Fields, B: Fields, C: Fields, D: Fields, E: Fields, F: Fields, G: Fields
     ghost takes = { SeenAs first_of_8 ⟦<(A, (B, C, D, E, F, G, H)) as Fields>⟧.takes };
 
     ghost keep_all = { ⟦<(A, (B, C, D, E, F, G, H)) as Fields>⟧.keep_all };
+
+    ghost count = { ⟦<(A, (B, C, D, E, F, G, H)) as Fields>⟧.count };
 
     fn count() -> usize {
         <(A, (B, C, D, E, F, G, H))>::count()
@@ -300,6 +312,8 @@ impl<
     ghost takes = { SeenAs first_of_9 ⟦<(A, (B, C, D, E, F, G, H, I)) as Fields>⟧.takes };
 
     ghost keep_all = { ⟦<(A, (B, C, D, E, F, G, H, I)) as Fields>⟧.keep_all };
+
+    ghost count = { ⟦<(A, (B, C, D, E, F, G, H, I)) as Fields>⟧.count };
 
     fn count() -> usize {
         <(A, (B, C, D, E, F, G, H, I))>::count()
@@ -360,6 +374,8 @@ impl<
     ghost takes = { SeenAs first_of_10 ⟦<(A, (B, C, D, E, F, G, H, I, J)) as Fields>⟧.takes };
 
     ghost keep_all = { ⟦<(A, (B, C, D, E, F, G, H, I, J)) as Fields>⟧.keep_all };
+
+    ghost count = { ⟦<(A, (B, C, D, E, F, G, H, I, J)) as Fields>⟧.count };
 
     fn count() -> usize {
         <(A, (B, C, D, E, F, G, H, I, J))>::count()
@@ -422,6 +438,8 @@ impl<
     ghost takes = { SeenAs first_of_11 ⟦<(A, (B, C, D, E, F, G, H, I, J, K)) as Fields>⟧.takes };
 
     ghost keep_all = { ⟦<(A, (B, C, D, E, F, G, H, I, J, K)) as Fields>⟧.keep_all };
+
+    ghost count = { ⟦<(A, (B, C, D, E, F, G, H, I, J, K)) as Fields>⟧.count };
 
     fn count() -> usize {
         <(A, (B, C, D, E, F, G, H, I, J, K))>::count()
@@ -486,6 +504,8 @@ impl<
     ghost takes = { SeenAs first_of_12 ⟦<(A, (B, C, D, E, F, G, H, I, J, K, L)) as Fields>⟧.takes };
 
     ghost keep_all = { ⟦<(A, (B, C, D, E, F, G, H, I, J, K, L)) as Fields>⟧.keep_all };
+
+    ghost count = { ⟦<(A, (B, C, D, E, F, G, H, I, J, K, L)) as Fields>⟧.count };
 
     fn count() -> usize {
         <(A, (B, C, D, E, F, G, H, I, J, K, L))>::count()

@@ -1,9 +1,10 @@
 //! Why octets are not one value of a type.
 ghost use Rattle.std.specs.Prelude.{◌≡◌};
 ghost use Rattle.bcder.specs.calls.Cause.{position_of};
+ghost use Rattle.asn1.specs.Paths.{refused_text};
 
 use crate::Path;
-use bcder::decode::{DecodeError, Pos};
+use bcder::decode::{ContentError, DecodeError, Pos};
 use std::convert::Infallible;
 use std::error::Error;
 use std::fmt;
@@ -32,19 +33,15 @@ impl TypeError {
 
 /// Writes `PATH at octet N: expected TYPE`, `PATH at octet N: TEXT`, or `out of memory`.
 impl fmt::Display for TypeError {
+    ghost output = { λ e. refused_text ⟦<DecodeError<Infallible> as fmt::Display>⟧.output
+        ⟦<ContentError as fmt::Display>⟧.output e.path e.error };
+
     fn fmt<W: fmt::Write>(&self, f: &mut fmt::Formatter<W>) -> fmt::Result {
         match &self.error {
             DecodeError::Content { error, pos } => {
-                if !self.path.is_empty() {
-                    write!(f, "{} ", self.path)?;
-                }
+                self.path.write_place(f)?;
                 write!(f, "at octet {pos}: ")?;
-                if self.path.has_expected() {
-                    write!(f, "expected ")?;
-                    self.path.write_expected(f)
-                } else {
-                    write!(f, "{error}")
-                }
+                self.path.write_reason(error, f)
             }
             error => write!(f, "{error}"),
         }

@@ -1,14 +1,17 @@
 //! Types, and their readers.
-ghost use Rattle.std.specs.Prelude.{⊤, ◌≢◌, ◌≡◌, Bool, false};
+ghost use Rattle.std.specs.Prelude.{⊤, ◌≢◌, ◌≡◌, Bool, false, List, [], ◌∷◌};
 ghost use Rattle.bcder.specs.declared.mode.Mode.{Mode};
 ghost use Rattle.bcder.specs.x690.Tree.{Tree};
 ghost use Rattle.bcder.specs.x690.Identifier.{Tag as TagValue, IsValueTag};
 ghost use Rattle.bcder.specs.calls.Views.{Moved};
 ghost use Rattle.bcder.specs.declared.mode.Mode.TheVariants.{Ber};
 ghost use Rattle.asn1.specs.Types.{TookNextTyped};
+ghost use Rattle.asn1.specs.Tracing.{AreNoted};
+ghost use Rattle.asn1.specs.declared.trace.Part.{Part as PartValue};
+ghost use Rattle.asn1.specs.declared.trace.Part.TheVariants.{Expected};
 ghost use Rattle.asn1.specs.Keys.{MeansOne, IsMeantOnce};
 
-use crate::{Part, Trace};
+use crate::Trace;
 use bcder::Tag;
 use bcder::decode::{Constructed, DecodeError, Source};
 use std::alloc::Global;
@@ -26,10 +29,13 @@ pub trait Type: Drop + Sized {
     /// gives one.
     const NAME: &'static str = "";
 
+    /// What is noted if a value was expected, when this tag is asked for. By default that is this
+    /// tag.
+    ghost expects: { TagValue → List PartValue } = { λ tag. Expected tag ∷ [] };
+
     /// Notes that a value of the type was expected.
-    fn expect<P: Trace>(path: &mut P) {
-        path.note(Part::Expected(Self::tag()));
-    }
+    fn expect<P: Trace>(path: &mut P)
+        ensures { AreNoted P.noted path.old (expects TAG) path.new };
 
     /// The tags that its values have if this one is asked for. That is this one, but a CHOICE,
     /// which has no tag of its own (X.680, 29.7), has those of its alternatives.

@@ -121,6 +121,12 @@ impl<F: Fields> Fields for ByRef<'_, F> {
 
     ghost keep_all = { F.keep_all };
 
+    ghost count = { F.count };
+
+    fn count() -> usize {
+        F::count()
+    }
+
     fn fields_are_one() {
         F::fields_are_one();
     }

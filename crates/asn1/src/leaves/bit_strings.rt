@@ -4,7 +4,7 @@ ghost use Rattle.bcder.specs.x690.BitString.{bit_string_tag, Bits, IsBitString};
 ghost use Rattle.asn1.specs.Types.{IsLeaf, Only};
 ghost use Rattle.asn1.specs.Tags.{bit_string_tagged, only_tagged};
 
-use crate::{Decode, Trace, Type};
+use crate::{Decode, Part, Trace, Type};
 use bcder::decode::{Constructed, DecodeError, Source};
 use bcder::{BitString, Tag};
 use std::alloc::Global;
@@ -17,6 +17,10 @@ impl Type for BitString {
     #[inline(always)]
     fn tag() -> Tag {
         Tag::BIT_STRING
+    }
+
+    fn expect<P: Trace>(path: &mut P) {
+        path.note(Part::Expected(Self::tag()));
     }
 
     ghost tags = { Only };

@@ -8,7 +8,7 @@ ghost use Rattle.asn1.specs.Types.{Only, TookNextTyped};
 ghost use Rattle.asn1.specs.Tags.{utf8_string_tagged, numeric_string_tagged, only_tagged};
 ghost use Rattle.asn1.specs.Tags.{printable_string_tagged, ia5_string_tagged};
 
-use crate::{Decode, Trace, Type};
+use crate::{Decode, Part, Trace, Type};
 use bcder::Tag;
 use bcder::decode::{Constructed, DecodeError, Source};
 use bcder::string::{
@@ -46,6 +46,10 @@ impl<L: TaggedCharSet> Type for RestrictedString<L> {
     #[inline(always)]
     fn tag() -> Tag {
         L::TAG
+    }
+
+    fn expect<P: Trace>(path: &mut P) {
+        path.note(Part::Expected(Self::tag()));
     }
 
     ghost tags = { Only };

@@ -4,7 +4,7 @@ ghost use Rattle.bcder.specs.x690.ObjectIdentifier.{identifier_tag, IsComplete};
 ghost use Rattle.asn1.specs.Types.{IsLeaf, Only};
 ghost use Rattle.asn1.specs.Tags.{identifier_tagged, only_tagged};
 
-use crate::{Decode, Trace, Type};
+use crate::{Decode, Part, Trace, Type};
 use bcder::decode::{Constructed, DecodeError, Source};
 use bcder::{Oid, Tag};
 use bytes::Bytes;
@@ -18,6 +18,10 @@ impl<T: AsSlice<u8> + Drop> Type for Oid<T> {
     #[inline(always)]
     fn tag() -> Tag {
         Tag::OID
+    }
+
+    fn expect<P: Trace>(path: &mut P) {
+        path.note(Part::Expected(Self::tag()));
     }
 
     ghost tags = { Only };

@@ -5,7 +5,7 @@ ghost use Rattle.bcder.specs.x690.Integer.{AreInteger};
 ghost use Rattle.asn1.specs.Types.{IsLeaf, Only};
 ghost use Rattle.asn1.specs.Tags.{integer_tagged, only_tagged};
 
-use crate::{Decode, Trace, Type};
+use crate::{Decode, Part, Trace, Type};
 use bcder::decode::{Constructed, DecodeError, Source};
 use bcder::{Integer, Tag, Unsigned};
 use std::alloc::Global;
@@ -17,6 +17,10 @@ impl Type for Integer {
     #[inline(always)]
     fn tag() -> Tag {
         Tag::INTEGER
+    }
+
+    fn expect<P: Trace>(path: &mut P) {
+        path.note(Part::Expected(Self::tag()));
     }
 
     ghost tags = { Only };
@@ -55,6 +59,10 @@ impl Type for Unsigned {
     #[inline(always)]
     fn tag() -> Tag {
         Tag::INTEGER
+    }
+
+    fn expect<P: Trace>(path: &mut P) {
+        path.note(Part::Expected(Self::tag()));
     }
 
     ghost tags = { Only };

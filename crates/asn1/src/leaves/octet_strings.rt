@@ -5,7 +5,7 @@ ghost use Rattle.bcder.specs.x690.OctetString.{octet_string_tag};
 ghost use Rattle.asn1.specs.Types.{Only};
 ghost use Rattle.asn1.specs.Tags.{octet_string_tagged, only_tagged};
 
-use crate::{Decode, Trace, Type};
+use crate::{Decode, Part, Trace, Type};
 use bcder::decode::{Constructed, DecodeError, Source};
 use bcder::{OctetString, Tag};
 use std::alloc::Global;
@@ -18,6 +18,10 @@ impl Type for OctetString {
     #[inline(always)]
     fn tag() -> Tag {
         Tag::OCTET_STRING
+    }
+
+    fn expect<P: Trace>(path: &mut P) {
+        path.note(Part::Expected(Self::tag()));
     }
 
     ghost tags = { Only };

@@ -5,7 +5,7 @@ ghost use Rattle.bcder.specs.x690.Identifier.{boolean_tag, null_tag};
 ghost use Rattle.asn1.specs.Types.{IsLeaf, Only};
 ghost use Rattle.asn1.specs.Tags.{boolean_tagged, null_tagged, only_tagged};
 
-use crate::{Decode, Trace, Type};
+use crate::{Decode, Part, Trace, Type};
 use bcder::Tag;
 use bcder::decode::{Constructed, DecodeError, Source};
 use std::alloc::Global;
@@ -17,6 +17,10 @@ impl Type for bool {
     #[inline(always)]
     fn tag() -> Tag {
         Tag::BOOLEAN
+    }
+
+    fn expect<P: Trace>(path: &mut P) {
+        path.note(Part::Expected(Self::tag()));
     }
 
     ghost tags = { Only };
@@ -53,6 +57,10 @@ impl Type for () {
     #[inline(always)]
     fn tag() -> Tag {
         Tag::NULL
+    }
+
+    fn expect<P: Trace>(path: &mut P) {
+        path.note(Part::Expected(Self::tag()));
     }
 
     ghost tags = { Only };

@@ -9,7 +9,7 @@ ghost use Rattle.asn1.specs.Types.{IsLeaf, Only, TookNextTyped};
 ghost use Rattle.asn1.specs.Tags.{only_tagged};
 
 use super::is_piece;
-use crate::{Decode, TaggedCharSet, Trace, Type};
+use crate::{Decode, Part, TaggedCharSet, Trace, Type};
 use bcder::decode::{Constructed, ContentError, DecodeError, LendingSource, Primitive};
 use bcder::string::{
     CharSetError, Ia5CharSet, NumericCharSet, OctetStringOctets, PrintableCharSet, TextCharSet,
@@ -96,6 +96,10 @@ impl<C: TaggedCharSet, L: AsSlice<u8> + Copy + Drop> Type for RestrictedStringRe
     #[inline(always)]
     fn tag() -> Tag {
         C::TAG
+    }
+
+    fn expect<P: Trace>(path: &mut P) {
+        path.note(Part::Expected(Self::tag()));
     }
 
     ghost tags = { Only };

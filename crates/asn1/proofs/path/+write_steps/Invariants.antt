@@ -1,0 +1,6 @@
+-- Fewer steps are left.
+use Rattle.std.proofs.Common.{length}
+use Rattle.asn1.proofs.path.+write_steps.Given as goal
+
+abbrev pub decreases-write_steps : goal.decreases-write_steps
+decreases-write_steps g l = length l.steps.now
