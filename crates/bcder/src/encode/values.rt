@@ -226,7 +226,6 @@ impl<E: Encoder> Values for E {
 }
 
 /// Returns the number of octets of what is written next, and notes the sizes that writing needs.
-/// CER has a call of its own, from which the compiler drops all that notes sizes.
 #[inline(always)]
 fn measure_first<E: Encoder>(
     encoder: &E,
@@ -238,10 +237,7 @@ fn measure_first<E: Encoder>(
     ensures sized { SizeOfValues (E.all encoder.now mode) (E.lacks encoder.now mode) result }
     ensures noted { IfOk result (λ _. MayRead (E.takes encoder.now mode) (noted sizes.new)) }
 {
-    match mode {
-        Mode::Cer => encoder.measured(mode, sizes),
-        Mode::Ber | Mode::Der => encoder.measured(mode, sizes),
-    }
+    encoder.measured(mode, sizes)
 }
 
 impl<V: Values> Encoder for &'_ V {
