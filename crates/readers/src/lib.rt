@@ -17,10 +17,12 @@ mod validity;
 #[cfg(test)]
 mod written;
 
+use asserts::{done, holds, same};
 use bcder::decode::{Constructed, DecodeError, SliceSource, Source};
 use bcder::{Mode, Oid};
-use std::test::Fail;
-use user::{Text, Time, decode_addresses, decode_certificate, decode_signed};
+use std::alloc::Global;
+use std::process::Abort;
+use user::{Name, Text, Time, decode_addresses, decode_certificate, decode_signed};
 
 /// A self-signed certificate in DER, made with openssl.
 const CERTIFICATE: &str = "\
@@ -89,67 +91,59 @@ const ADDRESSES: &str = "\
 3035302b040300010130240304040a00200304000a00400303000a01300c0304040a02300304000a02400303000a0330\
 06040200020500";
 
-#[test]
-fn reads_a_certificate(rt: HostRuntime) -> Result<(), Fail> {
-    let octets = hex::decode(rt.alloc(), CERTIFICATE)?;
-    let found = decode_certificate(rt.alloc(), SliceSource::new(&octets))?;
-    assert_eq!(rt;
-        (found.version, found.extensions, found.critical),
-        (3, 3, 1)
-    );
-    for name in [&found.issuer, &found.subject] {
-        assert_eq!(rt; name.attributes().len(), 3);
-        for (attribute, text) in name.attributes().iter().zip(["NL", "Test", "example.test"]) {
-            assert_eq!(rt; attribute.text.to_string(rt.alloc())?.as_str(), text);
-        }
-        let common = name.text_of(&Oid(&[0x55, 0x04, 0x03]));
-        assert!(rt; matches!(common, Some(Text::Utf8(_))));
-        assert!(rt; name.text_of(&Oid(&[0x55, 0x04, 0x04])).is_none());
+/// Asserts that a name has three attributes with these texts, the last of them a common name.
+fn is_name(rt: &impl Abort, alloc: Global, name: &Name) {
+    same(rt, name.attributes().len(), 3);
+    for (attribute, text) in name.attributes().iter().zip(["NL", "Test", "example.test"]) {
+        let shown = done(rt, attribute.text.to_string(alloc));
+        same(rt, shown.as_str(), text);
     }
-    assert_eq!(rt; (found.serial, found.key), (20, 271));
-    assert!(rt; matches!(found.validity.from, Time::Utc(13)));
-    assert!(rt; matches!(found.validity.to, Time::Utc(13)));
-    Ok(())
+    let common = name.text_of(&Oid(&[0x55, 0x04, 0x03]));
+    holds(rt, matches!(common, Some(Text::Utf8(_))));
+    holds(rt, name.text_of(&Oid(&[0x55, 0x04, 0x04])).is_none());
 }
 
 #[test]
-fn reads_a_signed_message(rt: HostRuntime) -> Result<(), Fail> {
-    let octets = hex::decode(rt.alloc(), SIGNED)?;
-    let found = decode_signed(rt.alloc(), SliceSource::new(&octets))?;
-    assert_eq!(rt; (found.digests, found.certificates, found.lists), (1, 1, 0));
-    assert_eq!(rt; found.message, Some(5));
-    assert_eq!(rt; (found.signers, found.attributes), (1, 4));
-    Ok(())
+fn reads_a_certificate(rt: HostRuntime) {
+    let octets = done(&rt, hex::decode(rt.alloc(), CERTIFICATE));
+    let found = decode_certificate(rt.alloc(), SliceSource::new(&octets));
+    let found = done(&rt, found);
+    same(&rt, found.version, 3);
+    same(&rt, [found.extensions, found.critical], [3, 1]);
+    is_name(&rt, rt.alloc(), &found.issuer);
+    is_name(&rt, rt.alloc(), &found.subject);
+    same(&rt, [found.serial, found.key], [20, 271]);
+    holds(&rt, matches!(found.validity.from, Time::Utc(13)));
+    holds(&rt, matches!(found.validity.to, Time::Utc(13)));
+}
+
+/// Signed messages, the numbers of their digest algorithms, certificates, lists of revoked ones,
+/// signers and attributes, and the number of octets that are signed.
+const MESSAGES: [(&str, [u64; 5], usize); 3] = [
+    (SIGNED, [1, 1, 0, 1, 4], 5),
+    (SIGNED_BY_KEY, [1, 0, 0, 1, 0], 5),
+    (SIGNED_IN_SEGMENTS, [1, 0, 0, 1, 0], 5),
+];
+
+#[test]
+fn reads_signed_messages(rt: HostRuntime) {
+    for (text, counts, len) in MESSAGES {
+        let octets = done(&rt, hex::decode(rt.alloc(), text));
+        let found = done(&rt, decode_signed(rt.alloc(), SliceSource::new(&octets)));
+        let (lists, signers) = (found.lists, found.signers);
+        let all = [found.digests, found.certificates, lists, signers, found.attributes];
+        same(&rt, all, counts);
+        same(&rt, found.message, Some(len));
+    }
 }
 
 #[test]
-fn reads_a_signer_by_its_key(rt: HostRuntime) -> Result<(), Fail> {
-    let octets = hex::decode(rt.alloc(), SIGNED_BY_KEY)?;
-    let found = decode_signed(rt.alloc(), SliceSource::new(&octets))?;
-    assert_eq!(rt; (found.digests, found.certificates, found.lists), (1, 0, 0));
-    assert_eq!(rt; found.message, Some(5));
-    assert_eq!(rt; (found.signers, found.attributes), (1, 0));
-    Ok(())
-}
-
-#[test]
-fn reads_a_message_in_segments(rt: HostRuntime) -> Result<(), Fail> {
-    let octets = hex::decode(rt.alloc(), SIGNED_IN_SEGMENTS)?;
-    let found = decode_signed(rt.alloc(), SliceSource::new(&octets))?;
-    assert_eq!(rt; (found.digests, found.certificates, found.lists), (1, 0, 0));
-    assert_eq!(rt; found.message, Some(5));
-    assert_eq!(rt; (found.signers, found.attributes), (1, 0));
-    Ok(())
-}
-
-#[test]
-fn reads_blocks_of_addresses(rt: HostRuntime) -> Result<(), Fail> {
-    let octets = hex::decode(rt.alloc(), ADDRESSES)?;
-    let found = decode_addresses(rt.alloc(), SliceSource::new(&octets))?;
-    assert_eq!(rt; (found.families, found.inherited), (2, 1));
-    assert_eq!(rt; (found.prefixes, found.ranges), (4, 1));
-    assert_eq!(rt; found.longest, 24);
-    Ok(())
+fn reads_blocks_of_addresses(rt: HostRuntime) {
+    let octets = done(&rt, hex::decode(rt.alloc(), ADDRESSES));
+    let found = done(&rt, decode_addresses(rt.alloc(), SliceSource::new(&octets)));
+    let all = [found.families, found.inherited, found.prefixes, found.ranges];
+    same(&rt, all, [2, 1, 4, 1]);
+    same(&rt, found.longest, 24);
 }
 
 /// Repeats a step that takes nothing, without an end, over the content of a SEQUENCE.
@@ -162,9 +156,8 @@ fn stay<S: Source>(cons: &mut Constructed<'_, S>) -> Result<(), DecodeError<S::E
 
 #[test]
 #[tactic(auto, using(bcder::specs::laws::Moved::untouched_is_moved))]
-fn a_step_that_takes_nothing_is_refused(rt: HostRuntime) -> Result<(), Fail> {
+fn a_step_that_takes_nothing_is_refused(rt: HostRuntime) {
     let octets: &[u8] = &[0x30, 0x02, 0x05, 0x00];
     let found = Constructed::decode(SliceSource::new(octets), Mode::Ber, |cons| stay(cons));
-    assert!(rt; found.is_err());
-    Ok(())
+    holds(&rt, found.is_err());
 }
