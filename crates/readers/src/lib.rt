@@ -131,7 +131,13 @@ fn reads_signed_messages(rt: HostRuntime) {
         let octets = done(&rt, hex::decode(rt.alloc(), text));
         let found = done(&rt, decode_signed(rt.alloc(), SliceSource::new(&octets)));
         let (lists, signers) = (found.lists, found.signers);
-        let all = [found.digests, found.certificates, lists, signers, found.attributes];
+        let all = [
+            found.digests,
+            found.certificates,
+            lists,
+            signers,
+            found.attributes,
+        ];
         same(&rt, all, counts);
         same(&rt, found.message, Some(len));
     }
@@ -141,7 +147,12 @@ fn reads_signed_messages(rt: HostRuntime) {
 fn reads_blocks_of_addresses(rt: HostRuntime) {
     let octets = done(&rt, hex::decode(rt.alloc(), ADDRESSES));
     let found = done(&rt, decode_addresses(rt.alloc(), SliceSource::new(&octets)));
-    let all = [found.families, found.inherited, found.prefixes, found.ranges];
+    let all = [
+        found.families,
+        found.inherited,
+        found.prefixes,
+        found.ranges,
+    ];
     same(&rt, all, [2, 1, 4, 1]);
     same(&rt, found.longest, 24);
 }

@@ -4,9 +4,8 @@ ghost use Rattle.bcder.specs.calls.Views.{Moved, MovedOctets};
 
 use crate::lists::{List, take_list};
 use crate::names::Name;
-use crate::parts;
 use crate::parts::{Parts, SignedPart};
-use crate::{skip_octets, take_len, take_len_of, take_opt_len_of};
+use crate::{parts, skip_octets, take_len, take_len_of, take_opt_len_of};
 use bcder::decode::{Constructed, ContentError, DecodeError, Primitive, Source, walk};
 use bcder::{Mode, Tag};
 use std::alloc::Global;

@@ -3,8 +3,8 @@ ghost use Rattle.bcder.specs.calls.Views.{Moved};
 
 use crate::certificate::skip_algorithm;
 use crate::skip_octets;
-use bcder::{Mode, Tag};
 use bcder::decode::{Constructed, DecodeError, Source};
+use bcder::{Mode, Tag};
 use std::alloc::Global;
 
 /// What is read of a structure.

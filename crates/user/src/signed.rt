@@ -3,9 +3,8 @@ ghost use Rattle.bcder.specs.calls.Views.{Moved};
 
 use crate::certificate::{Certificate, skip_algorithm, skip_algorithm_parts};
 use crate::lists::{Each, List, take_all, take_list, take_opt_list};
-use crate::parts;
 use crate::parts::{Parts, SignedPart};
-use crate::skip_octets;
+use crate::{parts, skip_octets};
 use bcder::decode::{Constructed, DecodeError, Source, walk};
 use bcder::{Mode, OctetString, Tag};
 use std::alloc::Global;
