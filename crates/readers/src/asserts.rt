@@ -5,6 +5,11 @@ ghost use Rattle.std.specs.Prelude.{◌≡◌, Ok};
 use std::fmt::Debug;
 use std::process::Abort;
 
+/// Asserts that the value is the wanted one.
+pub fn same<T: PartialEq + Debug + Drop>(rt: &impl Abort, found: T, wanted: T) {
+    assert_eq!(rt; found, wanted);
+}
+
 /// Asserts that `fact` is true.
 pub fn holds(rt: &impl Abort, fact: bool) {
     assert!(rt; fact);

@@ -1,9 +1,7 @@
 //! A list of revoked certificates that openssl made. What is expected is what `openssl crl` and
 //! `openssl asn1parse` show of it.
-
+use crate::asserts::{done, holds, same};
 use bcder::Oid;
-use std::alloc::Global;
-use std::test::Fail;
 use user::{Crl, Time};
 
 /// The list: number 42, of two certificates.
@@ -17,59 +15,55 @@ a109a1bf7a0727300a0603551d14040302012a300a06082a8648ce3d0403020347003044022064eb
 450297b02b4af434";
 
 #[test]
-fn a_list_is_read(rt: HostRuntime) -> Result<(), Fail> {
-    let octets = hex::decode(rt.alloc(), LIST)?;
-    let crl = Crl::decode(rt.alloc(), &octets)?;
+fn a_list_is_read(rt: HostRuntime) {
+    let octets = done(&rt, hex::decode(rt.alloc(), LIST));
+    let crl = done(&rt, Crl::decode(rt.alloc(), &octets));
     let common = crl.issuer.text_of(&Oid(&[0x55, 0x04, 0x03]));
-    let common = common.ok_or("no common name")?;
-    assert_eq!(rt; common.to_string(rt.alloc())?.as_str(), "crl.test");
-    assert!(rt; matches!(crl.this_update, Time::Utc(13)));
-    assert!(rt; matches!(crl.next_update, Some(Time::Utc(13))));
-    Ok(())
+    let common = common.expect(&rt, "a common name");
+    let shown = done(&rt, common.to_string(rt.alloc()));
+    same(&rt, shown.as_str(), "crl.test");
+    holds(&rt, matches!(crl.this_update, Time::Utc(13)));
+    holds(&rt, matches!(crl.next_update, Some(Time::Utc(13))));
 }
 
 #[test]
-fn what_was_revoked_is_kept(rt: HostRuntime) -> Result<(), Fail> {
-    let octets = hex::decode(rt.alloc(), LIST)?;
-    let crl = Crl::decode(rt.alloc(), &octets)?;
-    assert_eq!(rt; crl.revoked.len(), 2);
+fn what_was_revoked_is_kept(rt: HostRuntime) {
+    let octets = done(&rt, hex::decode(rt.alloc(), LIST));
+    let crl = done(&rt, Crl::decode(rt.alloc(), &octets));
+    same(&rt, crl.revoked.len(), 2);
     let serials = [b"\x10\x00".as_slice(), b"\x0D\xEA\xDB\xEE\xF1".as_slice()];
     for (entry, serial) in crl.revoked.iter().zip(serials) {
-        assert_eq!(rt; entry.serial.as_slice(), serial);
+        same(&rt, entry.serial.as_slice(), serial);
     }
-    let number = crl.number.ok_or("no number")?;
-    assert_eq!(rt; u8::try_from(&number)?, 42);
-    Ok(())
+    let number = crl.number.expect(&rt, "a number");
+    same(&rt, done(&rt, u8::try_from(&number)), 42);
 }
 
-/// How the list is refused with one octet turned.
-fn refusal_of(alloc: Global, place: usize, was: u8, turned: u8) -> Result<String, Fail> {
-    let mut octets = hex::decode(alloc, LIST)?;
-    let octet = octets.get_mut(place).ok_or("no such octet")?;
-    if *octet != was {
-        return Err(Fail::from("another octet"));
+/// A place in the list, its octet, another in its place, and how the list is refused then.
+///
+/// In the first row the identifier `55 1D 14` becomes `55 80 14`, whose second subidentifier has an
+/// octet too many. The position is that of the contents octets of its extension. In the second the
+/// INTEGER of the number becomes a BOOLEAN: it is told by its position in the OCTET STRING.
+const TURNED: [(usize, u8, u8, &str); 2] = [
+    (
+        204,
+        0x1D,
+        0x80,
+        "subidentifier not in the fewest octets (at position 201)",
+    ),
+    (208, 0x02, 0x01, "expected tag INTEGER (at position 0)"),
+];
+
+#[test]
+fn lists_with_another_octet_are_refused(rt: HostRuntime) {
+    for (place, was, turned, text) in TURNED {
+        let mut octets = done(&rt, hex::decode(rt.alloc(), LIST));
+        let octet = octets.get_mut(place).expect(&rt, "an octet");
+        same(&rt, *octet, was);
+        *octet = turned;
+        let refused = Crl::decode(rt.alloc(), &octets).err();
+        let error = refused.expect(&rt, "a refusal");
+        let shown = done(&rt, error.to_string(rt.alloc()));
+        same(&rt, shown.as_str(), text);
     }
-    *octet = turned;
-    let error = Crl::decode(alloc, &octets).err().ok_or("it is taken")?;
-    Ok(format!(in alloc; "{error}")?)
-}
-
-/// The identifier `55 1D 14` turned to `55 80 14`, whose second subidentifier has an octet too
-/// many. The position is that of the contents octets of its extension.
-#[test]
-fn a_spare_octet_in_an_identifier_is_refused(rt: HostRuntime) -> Result<(), Fail> {
-    let shown = refusal_of(rt.alloc(), 204, 0x1D, 0x80)?;
-    assert_eq!(rt;
-        shown.as_str(),
-        "subidentifier not in the fewest octets (at position 201)"
-    );
-    Ok(())
-}
-
-/// The INTEGER of the number turned to a BOOLEAN: it is told by its position in the OCTET STRING.
-#[test]
-fn another_value_in_an_octet_string_is_refused(rt: HostRuntime) -> Result<(), Fail> {
-    let shown = refusal_of(rt.alloc(), 208, 0x02, 0x01)?;
-    assert_eq!(rt; shown.as_str(), "expected tag INTEGER (at position 0)");
-    Ok(())
 }

@@ -5,13 +5,12 @@
 //! asn1parse` shows of it. The others are worked out by hand.
 ghost use Rattle.bcder.specs.calls.Views.{Moved, MovedOctets};
 
-use crate::asserts::holds;
+use crate::asserts::{done, holds, same};
 use bcder::decode::{Constructed, DecodeError, Primitive, SliceSource, Source};
 use bcder::encode::{PrimitiveContent, Values, sequence};
 use bcder::{ConstOid, Integer, Mode, Oid, Unsigned};
 use std::alloc::Global;
 use std::process::Abort;
-use std::test::Fail;
 use user::decode_extensions;
 use writers::{
     Part, Request, Text, write_and_read, write_and_read_signed, write_chosen, write_each,
@@ -41,9 +40,9 @@ const EXTENSIONS: &str = "\
 const ORGANIZATION: ConstOid = Oid(&[0x55, 0x04, 0x0A]);
 
 #[test]
-fn a_request_is_that_of_openssl(rt: HostRuntime) -> Result<(), Fail> {
-    let wanted = hex::decode(rt.alloc(), REQUEST)?;
-    let key = hex::decode(rt.alloc(), KEY)?;
+fn a_request_is_that_of_openssl(rt: HostRuntime) {
+    let wanted = done(&rt, hex::decode(rt.alloc(), REQUEST));
+    let key = done(&rt, hex::decode(rt.alloc(), KEY));
     let request = Request {
         organization: Part {
             kind: &[0x55, 0x04, 0x0A],
@@ -65,7 +64,6 @@ fn a_request_is_that_of_openssl(rt: HostRuntime) -> Result<(), Fail> {
         write_request(&request, Mode::Der, &mut written).is_ok(),
     );
     holds(&rt, written.as_slice() == wanted.as_slice());
-    Ok(())
 }
 
 #[test]
@@ -76,19 +74,18 @@ fn a_number_is_read_from_what_was_written(rt: HostRuntime) {
 }
 
 #[test]
-fn lists_through_an_iterator(rt: HostRuntime) -> Result<(), Fail> {
+fn lists_through_an_iterator(rt: HostRuntime) {
     let mut octets = Vec::new(rt.alloc());
     let numbers = [5u32.encode(), 300u32.encode()];
     holds(&rt, write_numbers(&numbers, Mode::Der, &mut octets).is_ok());
     let mut values = Vec::new(rt.alloc());
-    values.push(true.encode())?;
-    values.push(false.encode())?;
+    done(&rt, values.push(true.encode()));
+    done(&rt, values.push(false.encode()));
     holds(&rt, write_each(&values, Mode::Der, &mut octets).is_ok());
     let wanted = [
         0x30, 0x07, 0x02, 0x01, 0x05, 0x02, 0x02, 0x01, 0x2C, 0x01, 0x01, 0xFF, 0x01, 0x01, 0x00,
     ];
     holds(&rt, octets.as_slice() == wanted.as_slice());
-    Ok(())
 }
 
 #[test]
@@ -103,19 +100,18 @@ fn octets_that_are_chosen(rt: HostRuntime) {
 }
 
 #[test]
-fn extensions_by_their_identifiers(rt: HostRuntime) -> Result<(), Fail> {
-    let octets = hex::decode(rt.alloc(), EXTENSIONS)?;
-    let found = decode_extensions(rt.alloc(), &octets)?;
-    let basic = found.basic.ok_or("no basic constraints")?;
+fn extensions_by_their_identifiers(rt: HostRuntime) {
+    let octets = done(&rt, hex::decode(rt.alloc(), EXTENSIONS));
+    let found = done(&rt, decode_extensions(rt.alloc(), &octets));
+    let basic = found.basic.expect(&rt, "basic constraints");
     holds(&rt, basic.authority && basic.path == Some(3));
     holds(&rt, found.usage == Some(4) && found.others == 2);
-    Ok(())
 }
 
 /// Tries basic constraints that hold an INTEGER in place of a SEQUENCE, and some with an octet
 /// behind them. The position counts all octets.
 #[test]
-fn other_basic_constraints_are_refused(rt: HostRuntime) -> Result<(), Fail> {
+fn other_basic_constraints_are_refused(rt: HostRuntime) {
     let other: &[u8] = &[
         0x30, 0x0C, 0x30, 0x0A, 0x06, 0x03, 0x55, 0x1D, 0x13, 0x04, 0x03, 0x02, 0x01, 0x03,
     ];
@@ -126,15 +122,11 @@ fn other_basic_constraints_are_refused(rt: HostRuntime) -> Result<(), Fail> {
         (other, "expected tag SEQUENCE (at position 11)"),
         (longer, "trailing data (at position 13)"),
     ] {
-        match decode_extensions(rt.alloc(), octets) {
-            Ok(_) => holds(&rt, false),
-            Err(error) => {
-                let shown = format!(in rt.alloc(); "{error}")?;
-                holds(&rt, shown.as_str() == wanted);
-            }
-        }
+        let refused = decode_extensions(rt.alloc(), octets).err();
+        let error = refused.expect(&rt, "a refusal");
+        let shown = done(&rt, error.to_string(rt.alloc()));
+        same(&rt, shown.as_str(), wanted);
     }
-    Ok(())
 }
 
 /// Takes an integer, one that isn't negative, and an object identifier, inside a SEQUENCE.
@@ -159,10 +151,11 @@ fn take_three<S: Source>(
 
 #[test]
 #[tactic(auto, using(bcder::specs::laws::Moved::untouched_is_moved))]
-fn numbers_and_identifiers(rt: HostRuntime) -> Result<(), Fail> {
+fn numbers_and_identifiers(rt: HostRuntime) {
     let alloc = rt.alloc();
-    let integer = Integer::from_i16(alloc, -129)?;
-    let unsigned = Unsigned::from_slice(alloc, &[0x00, 0x00, 0xDE, 0xAD, 0xBE, 0xEF])?;
+    let integer = done(&rt, Integer::from_i16(alloc, -129));
+    let unsigned = Unsigned::from_slice(alloc, &[0x00, 0x00, 0xDE, 0xAD, 0xBE, 0xEF]);
+    let unsigned = done(&rt, unsigned);
     let parts = (
         integer.encode(),
         unsigned.encode(),
@@ -178,10 +171,10 @@ fn numbers_and_identifiers(rt: HostRuntime) -> Result<(), Fail> {
     holds(&rt, written.as_slice() == wanted);
     holds(&rt, values.encoded_len(Mode::Der) == Ok(18));
     let source = SliceSource::new(wanted);
-    let found = Constructed::decode(source, Mode::Der, |cons| take_three(alloc, cons))?;
+    let found = Constructed::decode(source, Mode::Der, |cons| take_three(alloc, cons));
+    let found = done(&rt, found);
     holds(&rt, found.0 == integer && found.1 == unsigned);
     holds(&rt, found.2.same_as(&ORGANIZATION));
-    Ok(())
 }
 
 /// Returns how many octets are borrowed, and how many are left after that.
@@ -199,34 +192,26 @@ fn look_and_take<S: Source>(
 
 #[test]
 #[tactic(auto, using(bcder::specs::laws::Moved::untouched_is_moved))]
-fn octets_are_lent_and_left(rt: HostRuntime) -> Result<(), Fail> {
+fn octets_are_lent_and_left(rt: HostRuntime) {
     let octets: &[u8] = &[0x01, 0x02, 0x03];
-    let found = Primitive::decode_slice(octets, Mode::Der, |octets| look_and_take(octets))?;
-    holds(&rt, found == (3, 3));
-    Ok(())
+    let found = Primitive::decode_slice(octets, Mode::Der, |octets| look_and_take(octets));
+    holds(&rt, done(&rt, found) == (3, 3));
 }
 
 /// Asserts that the value has these contents octets in DER.
-fn is_octets<P: PrimitiveContent>(
-    rt: &impl Abort,
-    alloc: Global,
-    value: &P,
-    wanted: &[u8],
-) -> Result<(), Fail> {
-    match value.to_encoded_bytes(alloc, Mode::Der) {
-        Ok(bytes) => holds(rt, bytes.as_slice() == wanted),
-        Err(_) => holds(rt, false),
-    }
-    Ok(())
+fn is_octets<P: PrimitiveContent>(rt: &impl Abort, alloc: Global, value: &P, wanted: &[u8]) {
+    let bytes = done(rt, value.to_encoded_bytes(alloc, Mode::Der));
+    same(rt, bytes.as_slice(), wanted);
 }
 
 #[test]
-fn contents_octets_as_bytes(rt: HostRuntime) -> Result<(), Fail> {
+fn contents_octets_as_bytes(rt: HostRuntime) {
     let alloc = rt.alloc();
-    let integer = Integer::from_i16(alloc, -129)?;
-    is_octets(&rt, alloc, &&integer, &[0xFF, 0x7F])?;
-    let unsigned = Unsigned::from_slice(alloc, &[0x00, 0x00, 0xDE, 0xAD, 0xBE, 0xEF])?;
-    is_octets(&rt, alloc, &&unsigned, &[0x00, 0xDE, 0xAD, 0xBE, 0xEF])?;
-    is_octets(&rt, alloc, &ORGANIZATION, &[0x55, 0x04, 0x0A])?;
-    is_octets(&rt, alloc, &Text("Test"), &[0x54, 0x65, 0x73, 0x74])
+    let integer = done(&rt, Integer::from_i16(alloc, -129));
+    is_octets(&rt, alloc, &&integer, &[0xFF, 0x7F]);
+    let unsigned = Unsigned::from_slice(alloc, &[0x00, 0x00, 0xDE, 0xAD, 0xBE, 0xEF]);
+    let unsigned = done(&rt, unsigned);
+    is_octets(&rt, alloc, &&unsigned, &[0x00, 0xDE, 0xAD, 0xBE, 0xEF]);
+    is_octets(&rt, alloc, &ORGANIZATION, &[0x55, 0x04, 0x0A]);
+    is_octets(&rt, alloc, &Text("Test"), &[0x54, 0x65, 0x73, 0x74]);
 }

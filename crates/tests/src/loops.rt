@@ -76,6 +76,28 @@ const LINES: [Line; 10] = [
     ),
 ];
 
+/// Takes the next number, if there is one, and refuses nine.
+fn take_but_nine<S: Source>(
+    cons: &mut Constructed<'_, S>,
+) -> Result<Option<u8>, DecodeError<S::Error>>
+    ensures { Moved S.stream cons }
+{
+    match cons.take_opt_u8()? {
+        Some(9) => Err(cons.content_err(ContentError::from_static("a nine"))),
+        found => Ok(found),
+    }
+}
+
+/// Collects numbers, of which none may be nine.
+fn collect<S: Source>(
+    alloc: Global,
+    cons: &mut Constructed<'_, S>,
+) -> Result<Vec<u8>, DecodeError<S::Error>>
+    ensures { Moved S.stream cons }
+{
+    cons.collect_some(alloc, |cons| take_but_nine(cons))
+}
+
 /// Takes the numbers of a SEQUENCE OF INTEGER.
 fn take_numbers<S: Source>(
     alloc: Global,
@@ -83,7 +105,7 @@ fn take_numbers<S: Source>(
 ) -> Result<Vec<u8>, DecodeError<S::Error>>
     ensures { Moved S.stream cons }
 {
-    cons.take_sequence(|cons| cons.collect_some(alloc, |cons| cons.take_opt_u8()))
+    cons.take_sequence(|cons| collect(alloc, cons))
 }
 
 /// Takes numbers, and the NULL after them.
@@ -93,7 +115,7 @@ fn take_up_to_null<S: Source>(
 ) -> Result<Vec<u8>, DecodeError<S::Error>>
     ensures { Moved S.stream cons }
 {
-    let numbers = cons.collect_some(alloc, |cons| cons.take_opt_u8())?;
+    let numbers = collect(alloc, cons)?;
     cons.take_null()?;
     Ok(numbers)
 }
@@ -195,25 +217,11 @@ fn a_failed_source_ends_the_collecting(rt: HostRuntime) {
     }
 }
 
-/// Takes the next number, if there is one, and refuses nine.
-fn take_but_nine<S: Source>(
-    cons: &mut Constructed<'_, S>,
-) -> Result<Option<u8>, DecodeError<S::Error>>
-    ensures { Moved S.stream cons }
-{
-    match cons.take_opt_u8()? {
-        Some(9) => Err(cons.content_err(ContentError::from_static("a nine"))),
-        found => Ok(found),
-    }
-}
-
 #[test]
 fn the_refusal_is_that_of_the_closure(rt: HostRuntime) {
     let alloc = rt.alloc();
     let octets: &[u8] = &[0x02, 0x01, 0x03, 0x02, 0x01, 0x09];
-    let found = Mode::Der.decode(octets, |cons| {
-        cons.collect_some(alloc, |cons| take_but_nine(cons))
-    });
+    let found = Mode::Der.decode(octets, |cons| collect(alloc, cons));
     let error = found.err().expect(&rt, "a refusal");
     let why = error.content_error().expect(&rt, "a reason");
     shows(&rt, alloc, why, "a nine");

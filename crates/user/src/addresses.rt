@@ -1,7 +1,7 @@
 //! Reads the blocks of addresses that a certificate's holder may use (RFC 3779, section 2.2.3).
 ghost use Rattle.bcder.specs.calls.Views.{Moved};
 
-use crate::lists::{List, take_list};
+use crate::lists::{Each, List, take_all, take_list};
 use bcder::decode::{Constructed, DecodeError, Source};
 use bcder::{BitString, Mode, OctetString, Tag};
 use std::alloc::Global;
@@ -35,7 +35,7 @@ impl List for Addresses {
     ) -> Result<(), DecodeError<S::Error>> {
         self.families = self.families.saturating_add(1);
         OctetString::take_from(self.alloc, cons)?;
-        let listed = cons.take_opt_sequence(|cons| cons.while_some(|cons| self.take_block(cons)))?;
+        let listed = cons.take_opt_sequence(|cons| take_all(self, cons))?;
         if listed.is_some() {
             return Ok(());
         }
@@ -62,15 +62,14 @@ impl Addresses {
         };
         take_list(Tag::SEQUENCE, none, cons)
     }
+}
 
-    /// Takes the next block of addresses, if there is one: a prefix, which is a BIT STRING, or a
-    /// range.
-    fn take_block<S: Source>(
+/// Each value is a block of addresses: a prefix, which is a BIT STRING, or a range.
+impl Each for Addresses {
+    fn take_next<S: Source>(
         &mut self,
         cons: &mut Constructed<'_, S>,
-    ) -> Result<Option<()>, DecodeError<S::Error>>
-        ensures { Moved S.stream cons }
-    {
+    ) -> Result<Option<()>, DecodeError<S::Error>> {
         let alloc = self.alloc;
         let prefix = cons.take_opt_value_if(Tag::BIT_STRING, |content| {
             BitString::from_content(alloc, content)

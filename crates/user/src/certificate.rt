@@ -4,13 +4,14 @@ ghost use Rattle.bcder.specs.calls.Views.{Moved, MovedOctets};
 
 use crate::lists::{List, take_list};
 use crate::names::Name;
-use crate::{skip_octets, take_len_of};
+use crate::parts::{Parts, SignedPart};
+use crate::{parts, skip_octets, take_len, take_len_of, take_opt_len_of};
 use bcder::decode::{Constructed, ContentError, DecodeError, Primitive, Source, walk};
 use bcder::{Mode, Tag};
 use std::alloc::Global;
 
 /// A time, of which only the number of octets is kept.
-#[derive(Clone, Copy, Debug)]
+#[derive(Clone, Copy)]
 pub enum Time {
     /// A time with two digits for the year.
     Utc(usize),
@@ -29,6 +30,16 @@ impl Time {
         cons.take_primitive(|tag, octets| Time::from_primitive(tag, octets))
     }
 
+    /// Takes a time with this tag, if one comes next.
+    pub(crate) fn take_opt_if<S: Source>(
+        tag: Tag,
+        cons: &mut Constructed<'_, S>,
+    ) -> Result<Option<Time>, DecodeError<S::Error>>
+        ensures { Moved S.stream cons }
+    {
+        cons.take_opt_primitive_if(tag, |octets| Time::from_primitive(tag, octets))
+    }
+
     /// Reads a time from the tag and the contents octets of a primitive value.
     fn from_primitive<S: Source>(
         tag: Tag,
@@ -36,20 +47,27 @@ impl Time {
     ) -> Result<Time, DecodeError<S::Error>>
         ensures { MovedOctets S.stream octets }
     {
-        let len = octets.remaining();
-        octets.skip_all()?;
+        let len = take_len(octets)?;
+        match Time::new(tag, len) {
+            Some(time) => Ok(time),
+            None => Err(octets.content_err(ContentError::from_static("expected a time"))),
+        }
+    }
+
+    /// Makes a time of a tag and the number of octets, or returns `None` if the tag is of no time.
+    fn new(tag: Tag, len: usize) -> Option<Time> {
         if tag == Tag::UTC_TIME {
-            Ok(Time::Utc(len))
+            Some(Time::Utc(len))
         } else if tag == Tag::GENERALIZED_TIME {
-            Ok(Time::Generalized(len))
+            Some(Time::Generalized(len))
         } else {
-            Err(octets.content_err(ContentError::from_static("expected a time")))
+            None
         }
     }
 }
 
 /// The time during which a certificate is valid.
-#[derive(Clone, Copy, Debug)]
+#[derive(Clone, Copy)]
 pub struct Validity {
     /// The first time.
     pub from: Time,
@@ -94,7 +112,7 @@ pub(crate) fn skip_algorithm_parts<S: Source>(
 }
 
 /// What is read of a certificate.
-#[derive(Debug, Drop)]
+#[derive(Drop)]
 pub struct Certificate {
     /// The version, which is 1 if the field is left out. Unique identifiers are read from version 2
     /// on, extensions from version 3 on.
@@ -130,65 +148,70 @@ impl Certificate {
     ) -> Result<Certificate, DecodeError<S::Error>>
         ensures { Moved S.stream cons }
     {
-        cons.take_sequence(|cons| Certificate::take_parts(alloc, cons))
+        let signed: SignedPart<Certificate> = parts::take(alloc, cons)?;
+        Ok(signed.0)
     }
 
-    /// Takes what is inside the SEQUENCE of a certificate.
-    pub(crate) fn take_parts<S: Source>(
+    /// Takes the fields from the serial number to the key.
+    fn take_fields<S: Source>(
+        version: u8,
         alloc: Global,
         cons: &mut Constructed<'_, S>,
     ) -> Result<Certificate, DecodeError<S::Error>>
         ensures { Moved S.stream cons }
     {
-        let certificate = Certificate::take_signed(alloc, cons)?;
+        let serial = take_len_of(Tag::INTEGER, cons)?;
         skip_algorithm(cons)?;
-        skip_octets(Tag::BIT_STRING, cons)?;
-        Ok(certificate)
+        let issuer = Name::take_from(alloc, cons)?;
+        let validity = Validity::take_from(cons)?;
+        let subject = Name::take_from(alloc, cons)?;
+        let key = take_key(cons)?;
+        Ok(Certificate {
+            version,
+            serial,
+            issuer,
+            validity,
+            subject,
+            key,
+            extensions: 0,
+            critical: 0,
+        })
     }
 
-    /// Takes the SEQUENCE that is signed, in one closure.
-    fn take_signed<S: Source>(
-        alloc: Global,
+    /// Takes the fields behind the key, which the version allows.
+    fn take_rest<S: Source>(
+        &mut self,
         cons: &mut Constructed<'_, S>,
-    ) -> Result<Certificate, DecodeError<S::Error>>
+    ) -> Result<(), DecodeError<S::Error>>
         ensures { Moved S.stream cons }
     {
-        cons.take_sequence(
-            |cons|
-                ensures { Moved S.stream cons }
-            {
-                let version = cons.take_opt_constructed_if(Tag::CTX_0, |cons| cons.take_u8())?;
-                let serial = take_len_of(Tag::INTEGER, cons)?;
-                skip_algorithm(cons)?;
-                let issuer = Name::take_from(alloc, cons)?;
-                let validity = Validity::take_from(cons)?;
-                let subject = Name::take_from(alloc, cons)?;
-                let key = take_key(cons)?;
-                let mut certificate = Certificate {
-                    version: version.unwrap_or(0).saturating_add(1),
-                    serial,
-                    issuer,
-                    validity,
-                    subject,
-                    key,
-                    extensions: 0,
-                    critical: 0,
-                };
-                if certificate.version < 2 {
-                    return Ok(certificate);
-                }
-                skip_opt_octets(Tag::CTX_1, cons)?;
-                skip_opt_octets(Tag::CTX_2, cons)?;
-                if certificate.version < 3 {
-                    return Ok(certificate);
-                }
-                if let Some(extensions) = Extensions::take_from(cons)? {
-                    certificate.extensions = extensions.all;
-                    certificate.critical = extensions.critical;
-                }
-                Ok(certificate)
-            },
-        )
+        if self.version < 2 {
+            return Ok(());
+        }
+        take_opt_len_of(Tag::CTX_1, cons)?;
+        take_opt_len_of(Tag::CTX_2, cons)?;
+        if self.version < 3 {
+            return Ok(());
+        }
+        if let Some(extensions) = Extensions::take_from(cons)? {
+            self.extensions = extensions.all;
+            self.critical = extensions.critical;
+        }
+        Ok(())
+    }
+}
+
+/// The parts are those of the SEQUENCE that is signed.
+impl Parts for Certificate {
+    fn take_parts<S: Source>(
+        alloc: Global,
+        cons: &mut Constructed<'_, S>,
+    ) -> Result<Certificate, DecodeError<S::Error>> {
+        let version = cons.take_opt_constructed_if(Tag::CTX_0, |cons| cons.take_u8())?;
+        let version = version.unwrap_or(0).saturating_add(1);
+        let mut certificate = Certificate::take_fields(version, alloc, cons)?;
+        certificate.take_rest(cons)?;
+        Ok(certificate)
     }
 }
 
@@ -201,17 +224,6 @@ fn take_key<S: Source>(cons: &mut Constructed<'_, S>) -> Result<usize, DecodeErr
         skip_algorithm(cons)?;
         take_len_of(Tag::BIT_STRING, cons)
     })
-}
-
-/// Skips the next value if it has the tag. It has to be primitive then.
-fn skip_opt_octets<S: Source>(
-    tag: Tag,
-    cons: &mut Constructed<'_, S>,
-) -> Result<(), DecodeError<S::Error>>
-    ensures { Moved S.stream cons }
-{
-    cons.take_opt_primitive_if(tag, |octets| octets.skip_all())?;
-    Ok(())
 }
 
 /// The number of extensions, and how many of them are critical.
@@ -256,11 +268,8 @@ pub fn decode_certificate<S: Source + Drop>(
     alloc: Global,
     source: S,
 ) -> Result<Certificate, DecodeError<S::Error>> {
-    Constructed::decode(
-        source,
-        Mode::Der,
-        |cons| Certificate::take_from(alloc, cons),
-    )
+    let signed: SignedPart<Certificate> = parts::decode(Mode::Der, alloc, source)?;
+    Ok(signed.0)
 }
 
 /// Decodes two certificates in DER from a borrowed source. Its owner can go on with what is left.

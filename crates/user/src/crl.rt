@@ -5,10 +5,12 @@
 ghost use Rattle.bcder.specs.calls.Views.{Moved};
 
 use crate::certificate::{Time, skip_algorithm};
+use crate::lists::{List, take_list};
 use crate::names::Name;
+use crate::parts;
+use crate::parts::{Parts, SignedPart};
 use crate::revoked::Entry;
-use crate::{skip_octets, take_len};
-use bcder::decode::{Constructed, ContentError, DecodeError, Source};
+use bcder::decode::{Constructed, ContentError, DecodeError, SliceSource, Source};
 use bcder::{ConstOid, Mode, OctetString, Oid, Tag, Unsigned};
 use std::alloc::Global;
 use std::convert::Infallible;
@@ -17,7 +19,7 @@ use std::convert::Infallible;
 const CRL_NUMBER: ConstOid = Oid(&[0x55, 0x1D, 0x14]);
 
 /// What is read of a list of revoked certificates.
-#[derive(Debug, Drop)]
+#[derive(Drop)]
 pub struct Crl {
     /// The name of the issuer.
     pub issuer: Name,
@@ -38,39 +40,18 @@ pub struct Crl {
 impl Crl {
     /// Decodes a list in DER from the start of octets.
     pub fn decode(alloc: Global, octets: &[u8]) -> Result<Crl, DecodeError<Infallible>> {
-        Mode::Der.decode(octets, |cons| Crl::take_from(alloc, cons))
+        let source = SliceSource::new(octets);
+        let signed: SignedPart<Crl> = parts::decode(Mode::Der, alloc, source)?;
+        Ok(signed.0)
     }
+}
 
-    /// Takes a SEQUENCE of the signed part, an algorithm and a signature.
-    pub fn take_from<S: Source>(
-        alloc: Global,
-        cons: &mut Constructed<'_, S>,
-    ) -> Result<Crl, DecodeError<S::Error>>
-        ensures { Moved S.stream cons }
-    {
-        cons.take_sequence(|cons| Crl::take_signed(alloc, cons))
-    }
-
-    /// Takes what is inside the SEQUENCE of a list.
-    fn take_signed<S: Source>(
-        alloc: Global,
-        cons: &mut Constructed<'_, S>,
-    ) -> Result<Crl, DecodeError<S::Error>>
-        ensures { Moved S.stream cons }
-    {
-        let crl = cons.take_sequence(|cons| Crl::take_parts(alloc, cons))?;
-        skip_algorithm(cons)?;
-        skip_octets(Tag::BIT_STRING, cons)?;
-        Ok(crl)
-    }
-
-    /// Takes what is inside the SEQUENCE of the signed part.
+/// The parts are those of the SEQUENCE that is signed.
+impl Parts for Crl {
     fn take_parts<S: Source>(
         alloc: Global,
         cons: &mut Constructed<'_, S>,
-    ) -> Result<Crl, DecodeError<S::Error>>
-        ensures { Moved S.stream cons }
-    {
+    ) -> Result<Crl, DecodeError<S::Error>> {
         cons.take_opt_u8()?;
         skip_algorithm(cons)?;
         let mut crl = Crl {
@@ -80,40 +61,46 @@ impl Crl {
             revoked: take_revoked(alloc, cons)?,
             number: None,
         };
-        cons.take_opt_constructed_if(Tag::CTX_0, |cons| crl.take_extensions(alloc, cons))?;
+        let number = cons.take_opt_constructed_if(Tag::CTX_0, |cons| take_number(alloc, cons))?;
+        crl.number = number.unwrap_or(None);
         Ok(crl)
     }
+}
 
-    /// Takes a SEQUENCE OF extensions.
-    fn take_extensions<S: Source>(
-        &mut self,
-        alloc: Global,
-        cons: &mut Constructed<'_, S>,
-    ) -> Result<(), DecodeError<S::Error>>
-        ensures { Moved S.stream cons }
-    {
-        cons.take_sequence(|cons| {
-            cons.while_some(|cons| cons.take_opt_sequence(|cons| self.take_extension(alloc, cons)))
-        })
-    }
+/// The number of the list, if an extension holds one.
+#[derive(Drop)]
+struct Number {
+    alloc: Global,
+    found: Option<Unsigned>,
+}
 
-    /// Takes what is inside an extension: its identifier, an optional BOOLEAN that says whether it
-    /// is critical, and an OCTET STRING.
-    fn take_extension<S: Source>(
+/// Each extension is a SEQUENCE of its identifier, an optional BOOLEAN that says whether it is
+/// critical, and an OCTET STRING.
+impl List for Number {
+    fn take_one<S: Source>(
         &mut self,
-        alloc: Global,
         cons: &mut Constructed<'_, S>,
-    ) -> Result<(), DecodeError<S::Error>>
-        ensures { Moved S.stream cons }
-    {
-        let kind = take_identifier(alloc, cons)?;
+    ) -> Result<(), DecodeError<S::Error>> {
+        let kind = take_identifier(self.alloc, cons)?;
         cons.take_opt_bool()?;
-        let value = OctetString::take_from(alloc, cons)?;
+        let value = OctetString::take_from(self.alloc, cons)?;
         if kind.same_as(&CRL_NUMBER) {
-            self.number = Some(number_in(alloc, value)?);
+            self.found = Some(number_in(self.alloc, value)?);
         }
         Ok(())
     }
+}
+
+/// Takes a SEQUENCE OF extensions, and returns the number of the list, if one of them holds it.
+fn take_number<S: Source>(
+    alloc: Global,
+    cons: &mut Constructed<'_, S>,
+) -> Result<Option<Unsigned>, DecodeError<S::Error>>
+    ensures { Moved S.stream cons }
+{
+    let none = Number { alloc, found: None };
+    let number = take_list(Tag::SEQUENCE, none, cons)?;
+    Ok(number.found)
 }
 
 /// Takes a time, if one comes next.
@@ -122,12 +109,11 @@ fn take_opt_time<S: Source>(
 ) -> Result<Option<Time>, DecodeError<S::Error>>
     ensures { Moved S.stream cons }
 {
-    let utc = cons.take_opt_primitive_if(Tag::UTC_TIME, |octets| take_len(octets))?;
-    if let Some(len) = utc {
-        return Ok(Some(Time::Utc(len)));
+    let time = Time::take_opt_if(Tag::UTC_TIME, cons)?;
+    if time.is_some() {
+        return Ok(time);
     }
-    let len = cons.take_opt_primitive_if(Tag::GENERALIZED_TIME, |octets| take_len(octets))?;
-    Ok(len.map(|len| Time::Generalized(len)))
+    Time::take_opt_if(Tag::GENERALIZED_TIME, cons)
 }
 
 /// Takes the entries, a SEQUENCE OF that is left out if there are none.

@@ -1,6 +1,7 @@
 //! Reads the extensions of a certificate, each by its object identifier (RFC 5280, section 4.2).
 ghost use Rattle.bcder.specs.calls.Views.{Moved};
 
+use crate::lists::{List, take_list};
 use crate::{skip_octets, take_len_of};
 use bcder::decode::{Constructed, DecodeError, SliceSource, Source};
 use bcder::{ConstOid, Mode, Oid, Tag};
@@ -53,6 +54,8 @@ impl Basic {
 /// What is read of the extensions.
 #[derive(Clone, Copy)]
 pub struct Extensions {
+    alloc: Global,
+
     /// The basic constraints, if they are there.
     pub basic: Option<Basic>,
 
@@ -71,27 +74,24 @@ impl Extensions {
     ) -> Result<Extensions, DecodeError<S::Error>>
         ensures { Moved S.stream cons }
     {
-        let mut found = Extensions {
+        let none = Extensions {
+            alloc,
             basic: None,
             usage: None,
             others: 0,
         };
-        cons.take_sequence(|cons| {
-            cons.while_some(|cons| cons.take_opt_sequence(|cons| found.take_one(alloc, cons)))
-        })?;
-        Ok(found)
+        take_list(Tag::SEQUENCE, none, cons)
     }
+}
 
-    /// Takes what is inside the SEQUENCE of an extension: an OBJECT IDENTIFIER, an optional
-    /// BOOLEAN, and an OCTET STRING, which is read as the identifier says.
+/// Each extension is a SEQUENCE of an OBJECT IDENTIFIER, an optional BOOLEAN, and an OCTET STRING,
+/// which is read as the identifier says.
+impl List for Extensions {
     fn take_one<S: Source>(
         &mut self,
-        alloc: Global,
         cons: &mut Constructed<'_, S>,
-    ) -> Result<(), DecodeError<S::Error>>
-        ensures { Moved S.stream cons }
-    {
-        let kind = Oid::take_from(alloc, cons)?;
+    ) -> Result<(), DecodeError<S::Error>> {
+        let kind = Oid::take_from(self.alloc, cons)?;
         cons.take_opt_bool()?;
         if kind.same_as(&BASIC_CONSTRAINTS) {
             self.basic = Some(Basic::take_inside(cons)?);

@@ -14,7 +14,7 @@ use std::alloc::Global;
 use std::borrow::CowSlice;
 
 /// The character set Latin-1.
-#[derive(Clone, Copy, Debug)]
+#[derive(Clone, Copy)]
 pub struct Latin1;
 
 impl CharSet for Latin1 {

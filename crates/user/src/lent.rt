@@ -7,7 +7,7 @@ use bcder::{Mode, Tag};
 use std::alloc::Global;
 
 /// An entry for a revoked certificate. It keeps octets that its source lends.
-#[derive(Clone, Copy, Debug)]
+#[derive(Clone, Copy)]
 pub struct LentEntry<O> {
     /// The octets of its serial number.
     pub serial: O,

@@ -24,6 +24,7 @@ pub mod latin_1;
 mod lent;
 mod lists;
 mod names;
+mod parts;
 mod revoked;
 mod signed;
 pub mod validity;
@@ -68,6 +69,17 @@ fn take_len_of<S: Source>(
     ensures { Moved S.stream cons }
 {
     cons.take_primitive_if(tag, |octets| take_len(octets))
+}
+
+/// Skips the next value if it has the tag, and returns the number of its contents octets. It has to
+/// be primitive then.
+fn take_opt_len_of<S: Source>(
+    tag: Tag,
+    cons: &mut Constructed<'_, S>,
+) -> Result<Option<usize>, DecodeError<S::Error>>
+    ensures { Moved S.stream cons }
+{
+    cons.take_opt_primitive_if(tag, |octets| take_len(octets))
 }
 
 /// Takes an OCTET STRING of one octet, and returns that octet.

@@ -1,4 +1,4 @@
-//! Reads lists of SEQUENCEs, one by one.
+//! Reads lists: those of SEQUENCEs, and those of values of any kind.
 ghost use Rattle.bcder.specs.calls.Views.{Moved};
 
 use bcder::Tag;
@@ -15,13 +15,33 @@ pub(crate) trait List: Sized + Drop {
 }
 
 /// Takes SEQUENCEs up to the end.
-fn take_each<L: List, S: Source>(
+pub(crate) fn take_each<L: List, S: Source>(
     list: &mut L,
     cons: &mut Constructed<'_, S>,
 ) -> Result<(), DecodeError<S::Error>>
     ensures { Moved S.stream cons }
 {
     cons.while_some(|cons| cons.take_opt_sequence(|cons| list.take_one(cons)))
+}
+
+/// What is kept of values of any kind.
+pub(crate) trait Each {
+    /// Takes the next value, if there is one, and keeps what it needs of it.
+    fn take_next<S: Source>(
+        &mut self,
+        cons: &mut Constructed<'_, S>,
+    ) -> Result<Option<()>, DecodeError<S::Error>>
+        ensures { Moved S.stream cons };
+}
+
+/// Takes values up to the end.
+pub(crate) fn take_all<E: Each, S: Source>(
+    each: &mut E,
+    cons: &mut Constructed<'_, S>,
+) -> Result<(), DecodeError<S::Error>>
+    ensures { Moved S.stream cons }
+{
+    cons.while_some(|cons| each.take_next(cons))
 }
 
 /// Takes a list with this tag, and adds its SEQUENCEs to `empty`.

@@ -1,6 +1,7 @@
 //! Reads names as text (RFC 5280, section 4.1.2.4).
 ghost use Rattle.bcder.specs.calls.Views.{Moved};
 
+use crate::lists::{Each, List, take_all, take_each};
 use bcder::decode::{Constructed, DecodeError, Source, walk};
 use bcder::string::{Ia5String, PrintableString, Utf8String};
 use bcder::{ConstOid, Oid};
@@ -8,7 +9,7 @@ use std::alloc::Global;
 use std::fmt;
 
 /// The text of an attribute.
-#[derive(Debug, Drop)]
+#[derive(Drop)]
 pub enum Text {
     Utf8(Utf8String),
     Printable(PrintableString),
@@ -32,6 +33,16 @@ impl Text {
         if let Some(text) = PrintableString::take_opt_from(alloc, cons)? {
             return Ok(Text::Printable(text));
         }
+        Text::take_another(alloc, cons)
+    }
+
+    /// Takes an IA5String, or skips a value of another type.
+    fn take_another<S: Source>(
+        alloc: Global,
+        cons: &mut Constructed<'_, S>,
+    ) -> Result<Text, DecodeError<S::Error>>
+        ensures { Moved S.stream cons }
+    {
         if let Some(text) = Ia5String::take_opt_from(alloc, cons)? {
             return Ok(Text::Ia5(text));
         }
@@ -52,7 +63,7 @@ impl fmt::Display for Text {
 }
 
 /// An attribute of a name.
-#[derive(Debug, Drop)]
+#[derive(Drop)]
 pub struct Attribute {
     /// The kind of the attribute, such as 2.5.4.3 for a common name.
     pub kind: Oid,
@@ -61,23 +72,10 @@ pub struct Attribute {
     pub text: Text,
 }
 
-impl Attribute {
-    /// Takes what is inside the SEQUENCE of an attribute.
-    fn take_parts<S: Source>(
-        alloc: Global,
-        cons: &mut Constructed<'_, S>,
-    ) -> Result<Attribute, DecodeError<S::Error>>
-        ensures { Moved S.stream cons }
-    {
-        let kind = Oid::take_from(alloc, cons)?;
-        let text = Text::take_from(alloc, cons)?;
-        Ok(Attribute { kind, text })
-    }
-}
-
 /// A name: its attributes, in order.
-#[derive(Debug, Drop)]
+#[derive(Drop)]
 pub struct Name {
+    alloc: Global,
     attributes: Vec<Attribute>,
 }
 
@@ -90,32 +88,11 @@ impl Name {
         ensures { Moved S.stream cons }
     {
         let mut name = Name {
+            alloc,
             attributes: Vec::new(alloc),
         };
-        cons.take_sequence(|cons| {
-            cons.while_some(|cons| {
-                cons.take_opt_set(|cons| cons.while_some(|cons| name.take_next(alloc, cons)))
-            })
-        })?;
+        cons.take_sequence(|cons| take_all(&mut name, cons))?;
         Ok(name)
-    }
-
-    /// Takes the next attribute, if there is one.
-    fn take_next<S: Source>(
-        &mut self,
-        alloc: Global,
-        cons: &mut Constructed<'_, S>,
-    ) -> Result<Option<()>, DecodeError<S::Error>>
-        ensures { Moved S.stream cons }
-    {
-        let next = cons.take_opt_sequence(|cons| Attribute::take_parts(alloc, cons))?;
-        let Some(attribute) = next else {
-            return Ok(None);
-        };
-        match self.attributes.push(attribute) {
-            Ok(()) => Ok(Some(())),
-            Err(_) => Err(DecodeError::no_memory()),
-        }
     }
 
     /// Returns the attributes, in order.
@@ -132,5 +109,30 @@ impl Name {
             }
         }
         found
+    }
+}
+
+/// Each value is a SET OF attributes.
+impl Each for Name {
+    fn take_next<S: Source>(
+        &mut self,
+        cons: &mut Constructed<'_, S>,
+    ) -> Result<Option<()>, DecodeError<S::Error>> {
+        cons.take_opt_set(|cons| take_each(self, cons))
+    }
+}
+
+/// Each attribute is a SEQUENCE of its kind and its text.
+impl List for Name {
+    fn take_one<S: Source>(
+        &mut self,
+        cons: &mut Constructed<'_, S>,
+    ) -> Result<(), DecodeError<S::Error>> {
+        let kind = Oid::take_from(self.alloc, cons)?;
+        let text = Text::take_from(self.alloc, cons)?;
+        match self.attributes.push(Attribute { kind, text }) {
+            Ok(()) => Ok(()),
+            Err(_) => Err(DecodeError::no_memory()),
+        }
     }
 }

@@ -3,13 +3,15 @@
 ghost use Rattle.bcder.specs.calls.Views.{Moved};
 
 use crate::certificate::Time;
+use crate::parts;
+use crate::parts::Parts;
 use bcder::decode::{Constructed, DecodeError, Source};
 use bcder::{Captured, Mode, Tag, Unsigned};
 use std::alloc::Global;
 use std::convert::Infallible;
 
 /// A revoked certificate.
-#[derive(Debug, Drop)]
+#[derive(Drop)]
 pub struct Entry {
     /// The serial number of the certificate.
     pub serial: Unsigned,
@@ -29,16 +31,15 @@ impl Entry {
     ) -> Result<Option<Entry>, DecodeError<S::Error>>
         ensures { Moved S.stream cons }
     {
-        cons.take_opt_sequence(|cons| Entry::take_parts(alloc, cons))
+        parts::take_opt(alloc, cons)
     }
+}
 
-    /// Takes what is inside the SEQUENCE of an entry.
+impl Parts for Entry {
     fn take_parts<S: Source>(
         alloc: Global,
         cons: &mut Constructed<'_, S>,
-    ) -> Result<Entry, DecodeError<S::Error>>
-        ensures { Moved S.stream cons }
-    {
+    ) -> Result<Entry, DecodeError<S::Error>> {
         let serial = Unsigned::take_from(alloc, cons)?;
         let date = Time::take_from(cons)?;
         let extensions = cons.take_opt_sequence(|cons| cons.capture_all(alloc))?;

@@ -2,8 +2,9 @@
 ghost use Rattle.bcder.specs.calls.Views.{Moved};
 
 use crate::certificate::{Certificate, skip_algorithm, skip_algorithm_parts};
-use crate::lists::{List, take_list, take_opt_list};
-use crate::skip_octets;
+use crate::lists::{Each, List, take_all, take_list, take_opt_list};
+use crate::parts::{Parts, SignedPart};
+use crate::{parts, skip_octets};
 use bcder::decode::{Constructed, DecodeError, Source, walk};
 use bcder::{Mode, OctetString, Tag};
 use std::alloc::Global;
@@ -30,24 +31,22 @@ pub struct Signed {
     pub attributes: u64,
 }
 
-impl Signed {
-    /// Takes a SEQUENCE of an OBJECT IDENTIFIER and, with the explicit tag `[0]`, the signed data.
-    pub fn take_from<S: Source>(
+/// A message is a SEQUENCE of an OBJECT IDENTIFIER and, with the explicit tag `[0]`, the signed data.
+impl Parts for Signed {
+    fn take_parts<S: Source>(
         alloc: Global,
         cons: &mut Constructed<'_, S>,
-    ) -> Result<Signed, DecodeError<S::Error>>
-        ensures { Moved S.stream cons }
-    {
-        cons.take_sequence(|cons| {
-            skip_octets(Tag::OID, cons)?;
-            cons.take_constructed_if(Tag::CTX_0, |cons| {
-                cons.take_sequence(|cons| Signed::take_parts(alloc, cons))
-            })
+    ) -> Result<Signed, DecodeError<S::Error>> {
+        skip_octets(Tag::OID, cons)?;
+        cons.take_constructed_if(Tag::CTX_0, |cons| {
+            cons.take_sequence(|cons| Signed::take_data(alloc, cons))
         })
     }
+}
 
+impl Signed {
     /// Takes the parts of the signed data.
-    fn take_parts<S: Source>(
+    fn take_data<S: Source>(
         alloc: Global,
         cons: &mut Constructed<'_, S>,
     ) -> Result<Signed, DecodeError<S::Error>>
@@ -89,7 +88,10 @@ fn take_message<S: Source>(
         skip_octets(Tag::OID, cons)?;
         cons.take_opt_constructed_if(Tag::CTX_0, |cons| OctetString::take_from(alloc, cons))
     })?;
-    Ok(message.map(|message| message.len()))
+    match message {
+        Some(message) => Ok(Some(message.len())),
+        None => Ok(None),
+    }
 }
 
 /// The number of algorithms.
@@ -119,32 +121,35 @@ impl List for Certificates {
         cons: &mut Constructed<'_, S>,
     ) -> Result<(), DecodeError<S::Error>> {
         self.all = self.all.saturating_add(1);
-        Certificate::take_parts(self.alloc, cons)?;
+        SignedPart::<Certificate>::take_parts(self.alloc, cons)?;
         Ok(())
     }
 }
 
-/// Skips the values up to the end, of which it reads only the headers, and returns their number.
+/// The number of values, of which only the headers are read.
+#[derive(Clone, Copy)]
+struct Values(u64);
+
+impl Each for Values {
+    fn take_next<S: Source>(
+        &mut self,
+        cons: &mut Constructed<'_, S>,
+    ) -> Result<Option<()>, DecodeError<S::Error>> {
+        let value = walk(cons)?;
+        if value.is_some() {
+            self.0 = self.0.saturating_add(1);
+        }
+        Ok(value)
+    }
+}
+
+/// Skips the values up to the end, and returns their number.
 fn count_values<S: Source>(cons: &mut Constructed<'_, S>) -> Result<u64, DecodeError<S::Error>>
     ensures { Moved S.stream cons }
 {
-    let mut count = 0u64;
-    cons.while_some(|cons| skip_value(&mut count, cons))?;
-    Ok(count)
-}
-
-/// Skips the next value, if there is one, and counts it.
-fn skip_value<S: Source>(
-    count: &mut u64,
-    cons: &mut Constructed<'_, S>,
-) -> Result<Option<()>, DecodeError<S::Error>>
-    ensures { Moved S.stream cons }
-{
-    let value = walk(cons)?;
-    if value.is_some() {
-        *count = count.saturating_add(1);
-    }
-    Ok(value)
+    let mut values = Values(0);
+    take_all(&mut values, cons)?;
+    Ok(values.0)
 }
 
 /// The number of signers, and of the attributes of all of them.
@@ -217,5 +222,5 @@ pub fn decode_signed<S: Source + Drop>(
     alloc: Global,
     source: S,
 ) -> Result<Signed, DecodeError<S::Error>> {
-    Constructed::decode(source, Mode::Ber, |cons| Signed::take_from(alloc, cons))
+    parts::decode(Mode::Ber, alloc, source)
 }

@@ -20,14 +20,14 @@ pub enum Kind {
 }
 
 /// A time: its kind, and its digits followed by `Z`.
-#[derive(Debug, Drop)]
+#[derive(Drop)]
 pub struct Time {
     pub kind: Kind,
     pub text: Bytes,
 }
 
 /// The time during which a certificate is valid.
-#[derive(Debug, Drop)]
+#[derive(Drop)]
 pub struct Validity {
     pub from: Time,
     pub until: Time,

@@ -25,6 +25,14 @@ enum Reader {
     All,
 }
 
+/// Drops what a reader returned, if it isn't an error.
+fn dropped<T: Drop, E>(found: Result<T, E>) -> Result<(), E> {
+    match found {
+        Ok(_) => Ok(()),
+        Err(error) => Err(error),
+    }
+}
+
 /// Reads the next value, and drops what is read.
 fn read<S: Source>(
     cons: &mut Constructed<'_, S>,
@@ -34,32 +42,15 @@ fn read<S: Source>(
     ensures { Moved S.stream cons }
 {
     match reader {
-        Reader::Integer => {
-            Integer::take_from(alloc, cons)?;
-        }
-        Reader::Unsigned => {
-            Unsigned::take_from(alloc, cons)?;
-        }
-        Reader::Oid => {
-            Oid::take_from(alloc, cons)?;
-        }
-        Reader::Bits => {
-            BitString::take_from(alloc, cons)?;
-        }
-        Reader::Octets => {
-            OctetString::take_from(alloc, cons)?;
-        }
-        Reader::Utf8 => {
-            Utf8String::take_from(alloc, cons)?;
-        }
-        Reader::One => {
-            cons.capture_one(alloc)?;
-        }
-        Reader::All => {
-            cons.capture_all(alloc)?;
-        }
+        Reader::Integer => dropped(Integer::take_from(alloc, cons)),
+        Reader::Unsigned => dropped(Unsigned::take_from(alloc, cons)),
+        Reader::Oid => dropped(Oid::take_from(alloc, cons)),
+        Reader::Bits => dropped(BitString::take_from(alloc, cons)),
+        Reader::Octets => dropped(OctetString::take_from(alloc, cons)),
+        Reader::Utf8 => dropped(Utf8String::take_from(alloc, cons)),
+        Reader::One => dropped(cons.capture_one(alloc)),
+        Reader::All => dropped(cons.capture_all(alloc)),
     }
-    Ok(())
 }
 
 /// A mode, octets, and a reader that refuses them for what they are.

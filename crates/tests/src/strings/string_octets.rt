@@ -160,13 +160,18 @@ fn no_hasher_is_called_for_each_octet(rt: HostRuntime) {
 
 // ---- strings that were cut
 
-/// Reads a string in BER.
+/// Reads a string in a mode.
 #[tactic(auto, using(bcder::specs::laws::Moved::steps))]
-pub(crate) fn read(case: &Case<'_, impl Abort>, encoding: &[u8]) -> OctetString {
+pub(crate) fn read_in(case: &Case<'_, impl Abort>, mode: Mode, encoding: &[u8]) -> OctetString {
     let alloc = case.alloc;
     let mut source = SliceSource::new(encoding);
-    let read = Mode::Ber.decode_lent(&mut source, |cons| OctetString::take_from(alloc, cons));
+    let read = mode.decode_lent(&mut source, |cons| OctetString::take_from(alloc, cons));
     case.done(read)
+}
+
+/// Reads a string in BER.
+pub(crate) fn read(case: &Case<'_, impl Abort>, encoding: &[u8]) -> OctetString {
+    read_in(case, Mode::Ber, encoding)
 }
 
 /// Appends a segment.

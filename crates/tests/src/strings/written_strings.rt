@@ -1,16 +1,12 @@
 //! Tests of what is written of octet strings: in segments, in one piece, as they came, and with
 //! values wrapped into one (X.690, 8.7, 9.2, 10.2).
-#![tactic(auto, using(bcder::specs::laws::Moved::steps))]
-
 ghost use Rattle.std.specs.Prelude.{◌<◌};
 
+use super::string_octets::{read, read_in, whole};
 use crate::asserts::Case;
 use crate::encodes::{Wanted, are_wanted, writes};
-use bcder::decode::{SliceSource, Source};
 use bcder::encode::{EncodeError, PrimitiveContent, Values, write_header};
 use bcder::{Captured, Mode, OctetString, Tag};
-use bytes::Bytes;
-use std::alloc::Global;
 use std::process::Abort;
 use support::encoders::{Nulls, Zeros};
 
@@ -38,19 +34,6 @@ fn spell(case: &Case<'_, impl Abort>, octets: &[u8], pieces: &[(&[u8], usize)]) 
     spelled
 }
 
-/// Returns the string that a source holds, if it is one in the mode.
-fn read<S: Source>(alloc: Global, mode: Mode, source: &mut S) -> Option<OctetString> {
-    match mode.decode_lent(source, |cons| OctetString::take_from(alloc, cons)) {
-        Ok(string) => Some(string),
-        Err(_) => None,
-    }
-}
-
-/// Returns the string that octets are in a mode.
-fn taken(case: &Case<'_, impl Abort>, mode: Mode, octets: &[u8]) -> OctetString {
-    case.done(read(case.alloc, mode, &mut SliceSource::new(octets)).ok_or(()))
-}
-
 /// Returns a string of these octets, cut into segments of this length.
 fn cut(case: &Case<'_, impl Abort>, octets: &[u8], each: usize) -> OctetString
     requires { 0 < each }
@@ -64,7 +47,7 @@ fn cut(case: &Case<'_, impl Abort>, octets: &[u8], each: usize) -> OctetString
     let mut encoding = Vec::new(case.alloc);
     case.holds(write_header(&mut encoding, Tag::OCTET_STRING, true, len).is_ok());
     case.done(encoding.extend_from_slice(segments.as_slice()));
-    taken(case, Mode::Ber, encoding.as_slice())
+    read(case, encoding.as_slice())
 }
 
 // ---- segments
@@ -141,49 +124,33 @@ fn check_string(case: &Case<'_, impl Abort>, string: &OctetString, cer: &[u8], d
     writes(case, &string.encode_ref(), Mode::Der, der);
 }
 
-#[test]
-fn octets_in_segments(rt: HostRuntime) {
-    let case = Case::new(&rt, rt.alloc(), 0);
-    for (row, (len, header, pieces)) in SEGMENTED.iter().enumerate() {
-        let case = Case::new(&rt, rt.alloc(), row);
-        let octets = octets_of(&case, *len);
-        let cer = spell(&case, octets.as_slice(), *pieces);
-        let der = spell(&case, octets.as_slice(), &[(*header, *len)]);
-        let encoder = OctetString::encode_slice(octets.as_slice());
-        let (cer, der) = (Wanted::Octets(&cer), Wanted::Octets(&der));
-        are_wanted(&case, &encoder, [der, cer, der]);
+/// Checks octets, and strings of them, however these were cut. They are written in segments in CER
+/// and in one piece in DER, as octets are in BER. What is written in CER is read, and written back
+/// unchanged.
+fn check_segments(case: &Case<'_, impl Abort>, octets: &[u8], cer: &[u8], der: &[u8]) {
+    let (pieces, piece) = (Wanted::Octets(cer), Wanted::Octets(der));
+    are_wanted(
+        case,
+        &OctetString::encode_slice(octets),
+        [piece, pieces, piece],
+    );
+    check_string(case, &whole(case, octets), cer, der);
+    for each in [7, 300, 999, 1000, 1001, 3000] {
+        check_string(case, &cut(case, octets, each), cer, der);
     }
+    let string = read_in(case, Mode::Cer, cer);
+    case.holds(string.eq_octets(octets));
+    writes(case, &string.encode(), Mode::Cer, cer);
 }
 
 #[test]
 fn strings_in_segments(rt: HostRuntime) {
-    let case = Case::new(&rt, rt.alloc(), 0);
-    let alloc = rt.alloc();
     for (row, (len, header, pieces)) in SEGMENTED.iter().enumerate() {
         let case = Case::new(&rt, rt.alloc(), row);
         let octets = octets_of(&case, *len);
-        let cer = spell(&case, octets.as_slice(), *pieces);
-        let der = spell(&case, octets.as_slice(), &[(*header, *len)]);
-        let whole = OctetString::new(case.done(Bytes::copy_from_slice(alloc, octets.as_slice())));
-        check_string(&case, &whole, cer.as_slice(), der.as_slice());
-        for each in [7, 300, 999, 1000, 1001, 3000] {
-            let string = cut(&case, octets.as_slice(), each);
-            check_string(&case, &string, cer.as_slice(), der.as_slice());
-        }
-    }
-}
-
-/// Checks that what is written in CER is read, and written back unchanged.
-#[test]
-fn segments_are_read_back(rt: HostRuntime) {
-    let case = Case::new(&rt, rt.alloc(), 0);
-    for (row, (len, _, pieces)) in SEGMENTED.iter().enumerate() {
-        let case = Case::new(&rt, rt.alloc(), row);
-        let octets = octets_of(&case, *len);
-        let cer = spell(&case, octets.as_slice(), *pieces);
-        let string = taken(&case, Mode::Cer, cer.as_slice());
-        case.holds(string.eq_octets(octets.as_slice()));
-        writes(&case, &string.encode(), Mode::Cer, cer.as_slice());
+        let cer = spell(&case, &octets, *pieces);
+        let der = spell(&case, &octets, &[(*header, *len)]);
+        check_segments(&case, &octets, &cer, &der);
     }
 }
 
@@ -236,10 +203,9 @@ const CAME: [[&[u8]; 4]; 7] = [
 
 #[test]
 fn strings_as_they_came(rt: HostRuntime) {
-    let case = Case::new(&rt, rt.alloc(), 0);
     for (row, [octets, ber, cer, der]) in CAME.iter().enumerate() {
         let case = Case::new(&rt, rt.alloc(), row);
-        let string = taken(&case, Mode::Ber, *octets);
+        let string = read(&case, *octets);
         check_string(&case, &string, *cer, *der);
         writes(&case, &string.encode(), Mode::Ber, *ber);
     }
@@ -249,7 +215,7 @@ fn strings_as_they_came(rt: HostRuntime) {
 fn strings_under_another_tag(rt: HostRuntime) {
     let case = Case::new(&rt, rt.alloc(), 0);
     let octets = [0x24, 0x07, 0x04, 0x00, 0x04, 0x00, 0x04, 0x01, 0x61];
-    let string = taken(&case, Mode::Ber, octets.as_slice());
+    let string = read(&case, octets.as_slice());
     let encoder = string.encode_ref_as(Tag::CTX_0);
     let basic = Wanted::Octets(&[0xA0, 0x07, 0x04, 0x00, 0x04, 0x00, 0x04, 0x01, 0x61]);
     let strict = Wanted::Octets(&[0x80, 0x01, 0x61]);
