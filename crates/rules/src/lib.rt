@@ -1,13 +1,15 @@
-// A library with one function.
+//! Which rules of X.690 octets break, and where.
+//!
+//! [`breaches`] goes over octets as encodings in BER, CER or DER. Past an octet that breaks a rule
+//! it goes on as far as the structure is known.
 #![tactic(auto)]
 
-ghost use Rattle.std.specs.Prelude.{◌≡◌};
-ghost use Rattle.rules.specs.Echo.{echo_of};
+mod begun;
+mod judge;
+pub mod kind;
+pub mod rule;
+mod text;
+mod walk;
 
-// The `ensures` clause is the contract: what `echo` returns is `echo_of` of its argument, a definition
-// in `specs/Echo.antt`, which a caller's clause can cite too.
-pub fn echo(x: usize) -> usize
-    ensures { result ≡ echo_of x }
-{
-    x
-}
+pub use rule::{Breach, Rule};
+pub use walk::breaches;
