@@ -26,11 +26,12 @@ impl fmt::Display for Here<'_> {
         if self.0.is_empty() {
             return write!(f, "nothing");
         }
-        let mut separator = "";
-        for octet in self.0.iter().take(SHOWN) {
+        for (place, octet) in self.0.iter().take(SHOWN).enumerate() {
             let number = *octet;
-            write!(f, "{separator}{number:02X}")?;
-            separator = " ";
+            if place > 0 {
+                write!(f, " ")?;
+            }
+            write!(f, "{number:02X}")?;
         }
         if self.0.len() > SHOWN {
             write!(f, " ..")?;

@@ -1,9 +1,10 @@
 //! Checks files: their octets, or the blocks of a text (RFC 7468).
-ghost use Rattle.std.specs.Prelude.{◌≡◌, ◌≢◌, [], IsTrue, OnOk, IfOk, IfErr};
+ghost use Rattle.std.specs.Prelude.{◌≡◌, ◌≢◌, [], None, IsTrue, OnOk, IfOk, IfErr};
 ghost use Rattle.std.specs.Io.KnownBytes.{Keeps};
 ghost use Rattle.rules.specs.Means.{AreRight};
 ghost use Rattle.bercheck.specs.declared.status.Status.TheVariants.{Right, Broken};
-ghost use Rattle.bercheck.specs.Runs.{AreFilesRight, IsFileRight, IsInputRight, MayHaveBlocks};
+ghost use Rattle.bercheck.specs.Runs.{AreFilesRight, IsFileRight, IsInputRight, IsSpelled};
+ghost use Rattle.bercheck.specs.Runs.{MayHaveBlocks};
 
 use crate::line::Line;
 use crate::request::Request;
@@ -30,7 +31,9 @@ fn write_lines<W: io::Write, E: io::Write>(
     ensures silent { found.now ≡ [] → (result ≡ Right) × Keeps (W.contents out.old) (W.contents out.new)
         × Keeps (E.contents err.old) (E.contents err.new) }
 {
-    let mut status = Status::Right;
+    if found.is_empty() {
+        return Status::Right;
+    }
     for breach in found {
         let line = Line {
             place,
@@ -41,9 +44,8 @@ fn write_lines<W: io::Write, E: io::Write>(
         if write!(out, "{line}").is_err() {
             return tell_unwritten(err);
         }
-        status = Status::Broken;
     }
-    status
+    Status::Broken
 }
 
 /// Checks octets, and writes what they break on `out`.

@@ -13,7 +13,7 @@ use Rattle.encodings.specs.Open.{Open, GoesBeyond, HasNoHeader}
 use Rattle.rules.specs.Begun.{BeginsValue}
 use Rattle.rules.specs.Comes.{Comes}
 use Rattle.rules.specs.Kinds.{kind_of}
-use Rattle.rules.specs.Means.{MayBeConstructed}
+use Rattle.rules.specs.Means.{HasCharacters, MayBeConstructed}
 use Rattle.rules.specs.declared.kind.Kind.{Kind}
 use Rattle.rules.specs.declared.kind.Kind.TheVariants as k
 use Rattle.rules.specs.declared.rule.Rule.{Rule}
@@ -32,6 +32,16 @@ pub record IsPadded (c : List ℕ) (place : ℕ) : Type 0 where
   pub padding : slice_index c place ≡ 0x80
   pub begins : 0 < place → slice_index c (place - 1) < 0x80
 
+-- a kind of strings, of octets or of bits
+abbrev pub IsString : Kind → Type 0
+IsString k.BitString = ⊤
+IsString k.OctetString = ⊤
+IsString k.Utf8String = ⊤
+IsString k.NumericString = ⊤
+IsString k.PrintableString = ⊤
+IsString k.Ia5String = ⊤
+IsString kind = ⊥
+
 -- the contents octets c of a primitive value of a kind break a rule at this octet
 abbrev pub BreaksContents : Mode → Kind → List ℕ → Rule → ℕ → Type 0
 BreaksContents mode kind c r.BooleanSize n = (kind ≡ k.Boolean) × (length c ≢ 1) × (n ≡ 0)
@@ -45,8 +55,8 @@ BreaksContents mode kind c r.UnusedOfNone n = (kind ≡ k.BitString) × (length 
 BreaksContents mode kind c r.UnusedNotZero n =
     (kind ≡ k.BitString) × (mode ≢ Ber) × (AreCleared (slice_index c 0) (drop 1 c) → ⊥) × (n + 1 ≡ length c)
 BreaksContents mode kind c r.BitsTooMany n = (kind ≡ k.BitString) × (2 ^ 61 < length c) × (n ≡ 0)
-BreaksContents mode kind c r.StringTooLong n =
-    (kind ≡ k.BitString ⊎ kind ≡ k.OctetString) × (mode ≡ Cer) × (1000 < length c) × (n ≡ 0)
+BreaksContents mode kind c r.StringTooLong n = IsString kind × (mode ≡ Cer) × (1000 < length c) × (n ≡ 0)
+BreaksContents mode kind c (r.Characters other) n = (other ≡ kind) × (HasCharacters kind c → ⊥) × (n ≡ 0)
 BreaksContents mode kind c r.NullNotEmpty n = (kind ≡ k.Null) × (0 < length c) × (n ≡ 0)
 BreaksContents mode kind c r.IdentifierCut n = (kind ≡ k.Identifier) × (IsComplete c → ⊥) × (n ≡ length c - 1)
 BreaksContents mode kind c r.IdentifierNotFewest n = (kind ≡ k.Identifier) × IsPadded c n

@@ -5,10 +5,10 @@ use Rattle.bcder.specs.x690.Identifier.{Class, universal, application, context_s
 use Rattle.rules.specs.declared.kind.Kind.{Kind}
 use Rattle.rules.specs.declared.kind.Kind.TheVariants as k
 
--- OCTET STRING, ObjectDescriptor, UTF8String, the character strings from NumericString to UniversalString with UTCTime and
--- GeneralizedTime among them, and BMPString
+-- OCTET STRING, ObjectDescriptor, the strings from TeletexString to UniversalString with UTCTime and GeneralizedTime among them,
+-- and BMPString
 abbrev pub is_string : ℕ → Bool
-is_string n = (n == 4 || n == 7) || ((n == 12 || is_in_range 18 28 n) || n == 30)
+is_string n = (n == 4 || n == 7) || (is_in_range 20 28 n || n == 30)
 
 -- EXTERNAL, EMBEDDED PDV, SEQUENCE, SET, CHARACTER STRING
 abbrev pub is_structure : ℕ → Bool
@@ -22,6 +22,10 @@ kind_of_number n =
     else if n == 5 then k.Null
     else if n == 6 || n == 13 then k.Identifier
     else if is_structure n then k.Structure
+    else if n == 12 then k.Utf8String
+    else if n == 18 then k.NumericString
+    else if n == 19 then k.PrintableString
+    else if n == 22 then k.Ia5String
     else if is_string n then k.OctetString
     else k.Other
 

@@ -3,17 +3,28 @@ use Rattle.std.specs.Prelude.{◌≡◌, ◌≢◌, ℕ, ℤ, Bool, true, false,
 use Rattle.bcder.specs.declared.mode.Mode.{Mode}
 use Rattle.bcder.specs.declared.mode.Mode.TheVariants.{Der}
 use Rattle.bcder.specs.calls.Readers.{IsTruth}
+use Rattle.bcder.specs.x690.AsciiSets.{is_ia5, is_numeric, is_printable, one_octet_step}
 use Rattle.bcder.specs.x690.BitString.{BitShape}
+use Rattle.bcder.specs.x690.CharSet.{IsOfSet}
 use Rattle.bcder.specs.x690.Encoding.{AreEncodings}
 use Rattle.bcder.specs.x690.Identifier.{Tag}
 use Rattle.bcder.specs.x690.Integer.{AreInteger}
 use Rattle.bcder.specs.x690.ObjectIdentifier.{IsComplete, IsMinimal}
 use Rattle.bcder.specs.x690.OctetString.{MayBeWhole}
+use Rattle.bcder.specs.x690.Utf8.{utf8_step}
 use Rattle.bcder.specs.x690.Tree.{Tree, primitive, constructed, Trees, no_trees, ◌∷ₜ◌}
 use Rattle.encodings.specs.Pieces.{Piece, value, begins, ends}
 use Rattle.rules.specs.Kinds.{kind_of}
 use Rattle.rules.specs.declared.kind.Kind.{Kind}
 use Rattle.rules.specs.declared.kind.Kind.TheVariants as k
+
+-- 8.23: the octets are characters of the type of a kind, if it names any
+abbrev pub HasCharacters : Kind → List ℕ → Type 0
+HasCharacters k.Utf8String c = IsOfSet utf8_step c
+HasCharacters k.NumericString c = IsOfSet (one_octet_step is_numeric) c
+HasCharacters k.PrintableString c = IsOfSet (one_octet_step is_printable) c
+HasCharacters k.Ia5String c = IsOfSet (one_octet_step is_ia5) c
+HasCharacters kind c = ⊤
 
 -- contents octets of a primitive value of a kind mean one
 abbrev pub MeansOne : Mode → Kind → List ℕ → Type 0
@@ -21,6 +32,10 @@ MeansOne mode k.Boolean c = (b : Bool) × IsTruth mode c b
 MeansOne mode k.Integer c = (z : ℤ) × AreInteger z c
 MeansOne mode k.BitString c = BitShape mode c
 MeansOne mode k.OctetString c = MayBeWhole mode c
+MeansOne mode k.Utf8String c = MayBeWhole mode c × HasCharacters k.Utf8String c
+MeansOne mode k.NumericString c = MayBeWhole mode c × HasCharacters k.NumericString c
+MeansOne mode k.PrintableString c = MayBeWhole mode c × HasCharacters k.PrintableString c
+MeansOne mode k.Ia5String c = MayBeWhole mode c × HasCharacters k.Ia5String c
 MeansOne mode k.Null c = c ≡ []
 MeansOne mode k.Identifier c = IsComplete c × IsMinimal c
 MeansOne mode k.Structure c = ⊥
@@ -32,6 +47,10 @@ MayBeConstructed mode k.Boolean = ⊥
 MayBeConstructed mode k.Integer = ⊥
 MayBeConstructed mode k.BitString = mode ≢ Der
 MayBeConstructed mode k.OctetString = mode ≢ Der
+MayBeConstructed mode k.Utf8String = mode ≢ Der
+MayBeConstructed mode k.NumericString = mode ≢ Der
+MayBeConstructed mode k.PrintableString = mode ≢ Der
+MayBeConstructed mode k.Ia5String = mode ≢ Der
 MayBeConstructed mode k.Null = ⊥
 MayBeConstructed mode k.Identifier = ⊥
 MayBeConstructed mode k.Structure = ⊤

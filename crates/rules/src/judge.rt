@@ -3,15 +3,18 @@ ghost use Rattle.std.specs.Prelude.{◌≡◌, ◌≢◌, ◌↔◌, ◌⊎◌, 
 ghost use Rattle.std.specs.Prelude.{ℕ, Bool, IfSome, IfNone, IsTrue, MatchOption, slice_index};
 ghost use Rattle.bcder.specs.declared.mode.Mode.TheVariants.{Ber, Cer};
 ghost use Rattle.bcder.specs.calls.Readers.{IsTruth};
-ghost use Rattle.rules.specs.Broken.{BreaksContents, BreaksForm, BreaksValue, IsPadded};
+ghost use Rattle.bcder.specs.x690.OctetString.{MayBeWhole};
+ghost use Rattle.rules.specs.Broken.{BreaksContents, BreaksForm, BreaksValue, IsPadded, IsString};
 ghost use Rattle.rules.specs.declared.kind.Kind.TheVariants as k;
-ghost use Rattle.rules.specs.Means.{IsMeantAlone, MayBeConstructed, MeansOne};
+ghost use Rattle.rules.specs.Means.{HasCharacters, IsMeantAlone};
+ghost use Rattle.rules.specs.Means.{MayBeConstructed, MeansOne};
 
 use crate::kind::{Kind, kind_of};
 use crate::rule::Rule;
 use bcder::{Mode, Tag};
 use encodings::bits::unused_bits;
 use encodings::contents::{boolean_of, is_object_identifier};
+use encodings::text::{is_ia5_string, is_numeric_string, is_printable_string, is_utf8_string};
 
 /// Returns the rule that a constructed value of a kind breaks.
 fn form_broken(mode: Mode, kind: Kind) -> Option<Rule>
@@ -23,7 +26,12 @@ fn form_broken(mode: Mode, kind: Kind) -> Option<Rule>
         Kind::Boolean | Kind::Integer | Kind::Null | Kind::Identifier => {
             Some(Rule::NotPrimitive(kind))
         }
-        Kind::BitString | Kind::OctetString => match mode {
+        Kind::BitString
+        | Kind::OctetString
+        | Kind::Utf8String
+        | Kind::NumericString
+        | Kind::PrintableString
+        | Kind::Ia5String => match mode {
             Mode::Der => Some(Rule::StringCut),
             Mode::Ber | Mode::Cer => None,
         },
@@ -123,14 +131,33 @@ fn bits_broken(mode: Mode, contents: &[u8]) -> Option<(Rule, usize)>
     }
 }
 
-/// Returns what contents octets of a string of octets break.
-fn string_broken(mode: Mode, contents: &[u8]) -> Option<Rule>
-    ensures broken { IfSome result (λ rule. BreaksContents mode k.OctetString contents.now rule 0) }
-    ensures unmeant { IfSome result (λ rule. MeansOne mode k.OctetString contents.now → ⊥) }
-    ensures meant { IfNone result (MeansOne mode k.OctetString contents.now) }
+/// Returns whether octets are characters of the type of a kind, if it names any.
+fn has_characters(kind: Kind, contents: &[u8]) -> bool
+    ensures { IsTrue result ↔ HasCharacters kind contents.now }
+{
+    match kind {
+        Kind::Utf8String => is_utf8_string(contents),
+        Kind::NumericString => is_numeric_string(contents),
+        Kind::PrintableString => is_printable_string(contents),
+        Kind::Ia5String => is_ia5_string(contents),
+        _ => true,
+    }
+}
+
+/// Returns what contents octets of a string of octets or characters break.
+fn string_broken(mode: Mode, kind: Kind, contents: &[u8]) -> Option<Rule>
+    requires { IsString kind }
+    ensures broken { IfSome result (λ rule. BreaksContents mode kind contents.now rule 0) }
+    ensures unmeant { IfSome result
+        (λ rule. MayBeWhole mode contents.now × HasCharacters kind contents.now → ⊥) }
+    ensures meant { IfNone result
+        (MayBeWhole mode contents.now × HasCharacters kind contents.now) }
 {
     if is_too_long(mode, contents) {
         return Some(Rule::StringTooLong);
+    }
+    if !has_characters(kind, contents) {
+        return Some(Rule::Characters(kind));
     }
     None
 }
@@ -206,7 +233,11 @@ fn contents_broken(mode: Mode, kind: Kind, contents: &[u8]) -> Option<(Rule, usi
         Kind::Boolean => at_first(boolean_broken(mode, contents)),
         Kind::Integer => at_first(integer_broken(mode, contents)),
         Kind::BitString => bits_broken(mode, contents),
-        Kind::OctetString => at_first(string_broken(mode, contents)),
+        Kind::OctetString => at_first(string_broken(mode, kind, contents)),
+        Kind::Utf8String => at_first(string_broken(mode, kind, contents)),
+        Kind::NumericString => at_first(string_broken(mode, kind, contents)),
+        Kind::PrintableString => at_first(string_broken(mode, kind, contents)),
+        Kind::Ia5String => at_first(string_broken(mode, kind, contents)),
         Kind::Null => at_first(null_broken(mode, contents)),
         Kind::Identifier => identifier_broken(mode, contents),
         Kind::Structure => unreachable!(),

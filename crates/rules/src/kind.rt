@@ -16,8 +16,21 @@ pub enum Kind {
     /// BIT STRING.
     BitString,
 
-    /// OCTET STRING, and the types of characters and times that are encoded as one.
+    /// OCTET STRING, and the types of characters and times that are encoded as one and aren't named
+    /// here.
     OctetString,
+
+    /// UTF8String.
+    Utf8String,
+
+    /// NumericString.
+    NumericString,
+
+    /// PrintableString.
+    PrintableString,
+
+    /// IA5String.
+    Ia5String,
 
     /// NULL.
     Null,
@@ -46,7 +59,11 @@ pub(crate) fn kind_of(tag: Tag) -> Kind
         5 => Kind::Null,
         6 | 13 => Kind::Identifier,
         8 | 11 | 16 | 17 | 29 => Kind::Structure,
-        4 | 7 | 12 | 18..=28 | 30 => Kind::OctetString,
+        12 => Kind::Utf8String,
+        18 => Kind::NumericString,
+        19 => Kind::PrintableString,
+        22 => Kind::Ia5String,
+        4 | 7 | 20..=28 | 30 => Kind::OctetString,
         _ => Kind::Other,
     }
 }

@@ -61,6 +61,9 @@ pub enum Rule {
     /// In CER, a primitive string has more than 1000 contents octets (9.2).
     StringTooLong,
 
+    /// The octets of a string aren't characters of its type (8.23).
+    Characters(Kind),
+
     /// A NULL has contents octets (8.8.2).
     NullNotEmpty,
 

@@ -1,4 +1,8 @@
 //! What is said of rules.
+ghost use Rattle.std.specs.Prelude.{◌≡◌};
+ghost use Rattle.rules.specs.Texts.{characters_clause, clause_of, constructed_text};
+ghost use Rattle.rules.specs.Texts.{header_clause, header_wanted, no_characters};
+ghost use Rattle.rules.specs.Texts.{primitive_clause, title_of, wanted_of};
 
 use crate::kind::Kind;
 use crate::rule::Rule;
@@ -6,7 +10,9 @@ use bcder::Mode;
 use bcder::decode::Violation;
 
 /// Returns what a constructed value of a kind is called.
-fn constructed(kind: Kind) -> &'static str {
+fn constructed(kind: Kind) -> &'static str
+    ensures { result.now ≡ constructed_text kind }
+{
     match kind {
         Kind::Boolean => "constructed BOOLEAN",
         Kind::Integer => "constructed INTEGER or ENUMERATED",
@@ -17,7 +23,9 @@ fn constructed(kind: Kind) -> &'static str {
 }
 
 /// Returns the clause of the rule that a value of a kind is primitive.
-fn primitive_clause(kind: Kind) -> &'static str {
+fn primitive_clause(kind: Kind) -> &'static str
+    ensures { result.now ≡ primitive_clause kind }
+{
     match kind {
         Kind::Boolean => "8.2.1",
         Kind::Integer => "8.3.1",
@@ -27,8 +35,33 @@ fn primitive_clause(kind: Kind) -> &'static str {
     }
 }
 
+/// Returns what a string of a kind is called whose octets aren't characters of its type.
+fn no_characters(kind: Kind) -> &'static str
+    ensures { result.now ≡ no_characters kind }
+{
+    match kind {
+        Kind::Utf8String => "UTF8String that isn't UTF-8",
+        Kind::NumericString => "NumericString with other characters",
+        Kind::PrintableString => "PrintableString with other characters",
+        Kind::Ia5String => "IA5String with other characters",
+        _ => "string with other characters",
+    }
+}
+
+/// Returns the clause of the rule that octets are characters of the type of a kind.
+fn characters_clause(kind: Kind) -> &'static str
+    ensures { result.now ≡ characters_clause kind }
+{
+    match kind {
+        Kind::Utf8String => "8.23.10",
+        _ => "8.23.5",
+    }
+}
+
 /// Returns the clause of a rule of headers.
-fn header_clause(violation: Violation, mode: Mode) -> &'static str {
+fn header_clause(violation: Violation, mode: Mode) -> &'static str
+    ensures { result.now ≡ header_clause violation mode }
+{
     match violation {
         Violation::TruncatedHeader => "8.1.1.1",
         Violation::TruncatedContents => "8.1.1.2",
@@ -49,7 +82,9 @@ fn header_clause(violation: Violation, mode: Mode) -> &'static str {
 }
 
 /// Returns what a rule of headers wants.
-fn header_wanted(violation: Violation) -> &'static str {
+fn header_wanted(violation: Violation) -> &'static str
+    ensures { result.now ≡ header_wanted violation }
+{
     match violation {
         Violation::TruncatedHeader => "a whole header",
         Violation::TruncatedContents => "as many contents octets as the length says",
@@ -68,7 +103,9 @@ fn header_wanted(violation: Violation) -> &'static str {
 
 impl Rule {
     /// Returns what is wrong where the rule is broken.
-    pub fn title(self) -> &'static str {
+    pub fn title(self) -> &'static str
+        ensures { result.now ≡ title_of self }
+    {
         match self {
             Rule::Header(violation) => violation.text(),
             Rule::ContentsCut => "contents cut short",
@@ -88,6 +125,7 @@ impl Rule {
             Rule::UnusedNotZero => "unused bits not zero",
             Rule::BitsTooMany => "BIT STRING of 2^61 octets or more",
             Rule::StringTooLong => "primitive string of over 1000 octets in CER",
+            Rule::Characters(kind) => no_characters(kind),
             Rule::NullNotEmpty => "NULL with contents octets",
             Rule::IdentifierCut => "OBJECT IDENTIFIER without an end",
             Rule::IdentifierNotFewest => "subidentifier not in the fewest octets",
@@ -95,7 +133,9 @@ impl Rule {
     }
 
     /// Returns the clause of X.690 that states the rule in a mode.
-    pub fn clause(self, mode: Mode) -> &'static str {
+    pub fn clause(self, mode: Mode) -> &'static str
+        ensures { result.now ≡ clause_of self mode }
+    {
         match self {
             Rule::Header(violation) => header_clause(violation, mode),
             Rule::ContentsCut => "8.1.1.2",
@@ -114,13 +154,16 @@ impl Rule {
             Rule::UnusedNotZero => "11.2.1",
             Rule::BitsTooMany => "8.6.2",
             Rule::StringTooLong => "9.2",
+            Rule::Characters(kind) => characters_clause(kind),
             Rule::NullNotEmpty => "8.8.2",
             Rule::IdentifierCut | Rule::IdentifierNotFewest => "8.19.2",
         }
     }
 
     /// Returns what the rule wants in place of what stands there.
-    pub fn wanted(self) -> &'static str {
+    pub fn wanted(self) -> &'static str
+        ensures { result.now ≡ wanted_of self }
+    {
         match self {
             Rule::Header(violation) => header_wanted(violation),
             Rule::ContentsCut => "as many contents octets as the length says",
@@ -139,6 +182,7 @@ impl Rule {
             Rule::UnusedNotZero => "unused bits that are zero",
             Rule::BitsTooMany => "fewer octets, by the limit here",
             Rule::StringTooLong => "segments of 1000 octets",
+            Rule::Characters(_) => "characters of the type",
             Rule::NullNotEmpty => "no octets",
             Rule::IdentifierCut => "an octet below 80 at the end",
             Rule::IdentifierNotFewest => "another octet than 80",
