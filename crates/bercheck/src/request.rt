@@ -1,4 +1,6 @@
 //! Reads the arguments.
+ghost use Rattle.std.specs.Prelude.{◌<◌, OnOk, length};
+
 use bcder::Mode;
 use cli::arguments::{Argument, Arguments};
 use cli::files::STDIN;
@@ -57,7 +59,9 @@ impl fmt::Display for Misuse<'_> {
 }
 
 /// Returns the form behind an option.
-fn form<'a>(args: &mut Arguments<'a>) -> Result<Form, Misuse<'a>> {
+fn form<'a>(args: &mut Arguments<'a>) -> Result<Form, Misuse<'a>>
+    ensures { OnOk result (length args.new.words.now < length args.old.words.now) }
+{
     let Some(word) = args.value() else {
         return Err(Misuse::Form);
     };

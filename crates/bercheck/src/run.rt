@@ -1,5 +1,5 @@
 //! Checks files: their octets, or the blocks of a text (RFC 7468).
-ghost use Rattle.std.specs.Prelude.{◌≡◌, ◌≢◌, [], None, IsTrue, OnOk, IfOk, IfErr};
+ghost use Rattle.std.specs.Prelude.{◌≡◌, ◌≢◌, [], IsTrue, OnOk, IfOk, IfErr, IfSome};
 ghost use Rattle.std.specs.Io.KnownBytes.{Keeps};
 ghost use Rattle.rules.specs.Means.{AreRight};
 ghost use Rattle.bercheck.specs.declared.status.Status.TheVariants.{Right, Broken};
@@ -160,7 +160,7 @@ fn spelled_in(
     form: Option<Form>,
     octets: &[u8],
 ) -> Result<Option<Vec<u8>>, Misspelled>
-    ensures { IfOk result (λ spelled. spelled ≢ None → IsSpelled form) }
+    ensures { IfOk result (λ spelled. IfSome spelled (λ octets. IsSpelled form)) }
 {
     match form {
         Some(Form::Hex) => Ok(Some(from_hex(alloc, octets)?)),
