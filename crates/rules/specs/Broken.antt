@@ -40,6 +40,8 @@ IsString k.Utf8String = ⊤
 IsString k.NumericString = ⊤
 IsString k.PrintableString = ⊤
 IsString k.Ia5String = ⊤
+IsString k.UtcTime = ⊤
+IsString k.GeneralizedTime = ⊤
 IsString kind = ⊥
 
 -- the contents octets c of a primitive value of a kind break a rule at this octet
@@ -56,7 +58,7 @@ BreaksContents mode kind c r.UnusedNotZero n =
     (kind ≡ k.BitString) × (mode ≢ Ber) × (AreCleared (slice_index c 0) (drop 1 c) → ⊥) × (n + 1 ≡ length c)
 BreaksContents mode kind c r.BitsTooMany n = (kind ≡ k.BitString) × (2 ^ 61 < length c) × (n ≡ 0)
 BreaksContents mode kind c r.StringTooLong n = IsString kind × (mode ≡ Cer) × (1000 < length c) × (n ≡ 0)
-BreaksContents mode kind c (r.Characters other) n = (other ≡ kind) × (HasCharacters kind c → ⊥) × (n ≡ 0)
+BreaksContents mode kind c (r.Characters other) n = (other ≡ kind) × (HasCharacters mode kind c → ⊥) × (n ≡ 0)
 BreaksContents mode kind c r.NullNotEmpty n = (kind ≡ k.Null) × (0 < length c) × (n ≡ 0)
 BreaksContents mode kind c r.IdentifierCut n = (kind ≡ k.Identifier) × (IsComplete c → ⊥) × (n ≡ length c - 1)
 BreaksContents mode kind c r.IdentifierNotFewest n = (kind ≡ k.Identifier) × IsPadded c n

@@ -5,10 +5,9 @@ use Rattle.bcder.specs.x690.Identifier.{Class, universal, application, context_s
 use Rattle.rules.specs.declared.kind.Kind.{Kind}
 use Rattle.rules.specs.declared.kind.Kind.TheVariants as k
 
--- OCTET STRING, ObjectDescriptor, the strings from TeletexString to UniversalString with UTCTime and GeneralizedTime among them,
--- and BMPString
+-- OCTET STRING, ObjectDescriptor, TeletexString, VideotexString, the strings from GraphicString to UniversalString, and BMPString
 abbrev pub is_string : ℕ → Bool
-is_string n = (n == 4 || n == 7) || (is_in_range 20 28 n || n == 30)
+is_string n = ((n == 4 || n == 7) || (n == 20 || n == 21)) || (is_in_range 25 28 n || n == 30)
 
 -- EXTERNAL, EMBEDDED PDV, SEQUENCE, SET, CHARACTER STRING
 abbrev pub is_structure : ℕ → Bool
@@ -26,6 +25,8 @@ kind_of_number n =
     else if n == 18 then k.NumericString
     else if n == 19 then k.PrintableString
     else if n == 22 then k.Ia5String
+    else if n == 23 then k.UtcTime
+    else if n == 24 then k.GeneralizedTime
     else if is_string n then k.OctetString
     else k.Other
 

@@ -1,7 +1,7 @@
 -- Which contents octets mean a value (ITU-T X.690, 8.2 to 8.20, 9.2, 10.2, 11.1, 11.2.1).
 use Rattle.std.specs.Prelude.{◌≡◌, ◌≢◌, ℕ, ℤ, Bool, true, false, List, [], ⊤}
 use Rattle.bcder.specs.declared.mode.Mode.{Mode}
-use Rattle.bcder.specs.declared.mode.Mode.TheVariants.{Der}
+use Rattle.bcder.specs.declared.mode.Mode.TheVariants.{Ber, Der}
 use Rattle.bcder.specs.calls.Readers.{IsTruth}
 use Rattle.bcder.specs.x690.AsciiSets.{is_ia5, is_numeric, is_printable, one_octet_step}
 use Rattle.bcder.specs.x690.BitString.{BitShape}
@@ -15,16 +15,19 @@ use Rattle.bcder.specs.x690.Utf8.{utf8_step}
 use Rattle.bcder.specs.x690.Tree.{Tree, primitive, constructed, Trees, no_trees, ◌∷ₜ◌}
 use Rattle.encodings.specs.Pieces.{Piece, value, begins, ends}
 use Rattle.rules.specs.Kinds.{kind_of}
+use Rattle.rules.specs.Times.{IsGeneralizedTime, IsUtcTime}
 use Rattle.rules.specs.declared.kind.Kind.{Kind}
 use Rattle.rules.specs.declared.kind.Kind.TheVariants as k
 
--- 8.23: the octets are characters of the type of a kind, if it names any
-abbrev pub HasCharacters : Kind → List ℕ → Type 0
-HasCharacters k.Utf8String c = IsOfSet utf8_step c
-HasCharacters k.NumericString c = IsOfSet (one_octet_step is_numeric) c
-HasCharacters k.PrintableString c = IsOfSet (one_octet_step is_printable) c
-HasCharacters k.Ia5String c = IsOfSet (one_octet_step is_ia5) c
-HasCharacters kind c = ⊤
+-- 8.23, 11.7, 11.8: the octets are characters of the type of a kind, if it names any, and those of a time in CER and DER
+abbrev pub HasCharacters : Mode → Kind → List ℕ → Type 0
+HasCharacters mode k.Utf8String c = IsOfSet utf8_step c
+HasCharacters mode k.NumericString c = IsOfSet (one_octet_step is_numeric) c
+HasCharacters mode k.PrintableString c = IsOfSet (one_octet_step is_printable) c
+HasCharacters mode k.Ia5String c = IsOfSet (one_octet_step is_ia5) c
+HasCharacters mode k.UtcTime c = mode ≢ Ber → IsUtcTime c
+HasCharacters mode k.GeneralizedTime c = mode ≢ Ber → IsGeneralizedTime c
+HasCharacters mode kind c = ⊤
 
 -- contents octets of a primitive value of a kind mean one
 abbrev pub MeansOne : Mode → Kind → List ℕ → Type 0
@@ -32,10 +35,12 @@ MeansOne mode k.Boolean c = (b : Bool) × IsTruth mode c b
 MeansOne mode k.Integer c = (z : ℤ) × AreInteger z c
 MeansOne mode k.BitString c = BitShape mode c
 MeansOne mode k.OctetString c = MayBeWhole mode c
-MeansOne mode k.Utf8String c = MayBeWhole mode c × HasCharacters k.Utf8String c
-MeansOne mode k.NumericString c = MayBeWhole mode c × HasCharacters k.NumericString c
-MeansOne mode k.PrintableString c = MayBeWhole mode c × HasCharacters k.PrintableString c
-MeansOne mode k.Ia5String c = MayBeWhole mode c × HasCharacters k.Ia5String c
+MeansOne mode k.Utf8String c = MayBeWhole mode c × HasCharacters mode k.Utf8String c
+MeansOne mode k.NumericString c = MayBeWhole mode c × HasCharacters mode k.NumericString c
+MeansOne mode k.PrintableString c = MayBeWhole mode c × HasCharacters mode k.PrintableString c
+MeansOne mode k.Ia5String c = MayBeWhole mode c × HasCharacters mode k.Ia5String c
+MeansOne mode k.UtcTime c = MayBeWhole mode c × HasCharacters mode k.UtcTime c
+MeansOne mode k.GeneralizedTime c = MayBeWhole mode c × HasCharacters mode k.GeneralizedTime c
 MeansOne mode k.Null c = c ≡ []
 MeansOne mode k.Identifier c = IsComplete c × IsMinimal c
 MeansOne mode k.Structure c = ⊥
@@ -51,6 +56,8 @@ MayBeConstructed mode k.Utf8String = mode ≢ Der
 MayBeConstructed mode k.NumericString = mode ≢ Der
 MayBeConstructed mode k.PrintableString = mode ≢ Der
 MayBeConstructed mode k.Ia5String = mode ≢ Der
+MayBeConstructed mode k.UtcTime = mode ≢ Der
+MayBeConstructed mode k.GeneralizedTime = mode ≢ Der
 MayBeConstructed mode k.Null = ⊥
 MayBeConstructed mode k.Identifier = ⊥
 MayBeConstructed mode k.Structure = ⊤

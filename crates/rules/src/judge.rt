@@ -11,6 +11,7 @@ ghost use Rattle.rules.specs.Means.{MayBeConstructed, MeansOne};
 
 use crate::kind::{Kind, kind_of};
 use crate::rule::Rule;
+use crate::time::{is_generalized_time, is_utc_time};
 use bcder::{Mode, Tag};
 use encodings::bits::unused_bits;
 use encodings::contents::{boolean_of, is_object_identifier};
@@ -31,7 +32,9 @@ fn form_broken(mode: Mode, kind: Kind) -> Option<Rule>
         | Kind::Utf8String
         | Kind::NumericString
         | Kind::PrintableString
-        | Kind::Ia5String => match mode {
+        | Kind::Ia5String
+        | Kind::UtcTime
+        | Kind::GeneralizedTime => match mode {
             Mode::Der => Some(Rule::StringCut),
             Mode::Ber | Mode::Cer => None,
         },
@@ -131,15 +134,28 @@ fn bits_broken(mode: Mode, contents: &[u8]) -> Option<(Rule, usize)>
     }
 }
 
-/// Returns whether octets are characters of the type of a kind, if it names any.
-fn has_characters(kind: Kind, contents: &[u8]) -> bool
-    ensures { IsTrue result ↔ HasCharacters kind contents.now }
+/// Returns whether the mode is CER or DER.
+fn is_strict(mode: Mode) -> bool
+    ensures { IsTrue result ↔ (mode ≢ Ber) }
+{
+    match mode {
+        Mode::Ber => false,
+        Mode::Cer | Mode::Der => true,
+    }
+}
+
+/// Returns whether octets are characters of the type of a kind, if it names any, and those of a
+/// time in CER and DER.
+fn has_characters(mode: Mode, kind: Kind, contents: &[u8]) -> bool
+    ensures { IsTrue result ↔ HasCharacters mode kind contents.now }
 {
     match kind {
         Kind::Utf8String => is_utf8_string(contents),
         Kind::NumericString => is_numeric_string(contents),
         Kind::PrintableString => is_printable_string(contents),
         Kind::Ia5String => is_ia5_string(contents),
+        Kind::UtcTime => !is_strict(mode) || is_utc_time(contents),
+        Kind::GeneralizedTime => !is_strict(mode) || is_generalized_time(contents),
         _ => true,
     }
 }
@@ -149,14 +165,14 @@ fn string_broken(mode: Mode, kind: Kind, contents: &[u8]) -> Option<Rule>
     requires { IsString kind }
     ensures broken { IfSome result (λ rule. BreaksContents mode kind contents.now rule 0) }
     ensures unmeant { IfSome result
-        (λ rule. MayBeWhole mode contents.now × HasCharacters kind contents.now → ⊥) }
+        (λ rule. MayBeWhole mode contents.now × HasCharacters mode kind contents.now → ⊥) }
     ensures meant { IfNone result
-        (MayBeWhole mode contents.now × HasCharacters kind contents.now) }
+        (MayBeWhole mode contents.now × HasCharacters mode kind contents.now) }
 {
     if is_too_long(mode, contents) {
         return Some(Rule::StringTooLong);
     }
-    if !has_characters(kind, contents) {
+    if !has_characters(mode, kind, contents) {
         return Some(Rule::Characters(kind));
     }
     None
@@ -238,6 +254,8 @@ fn contents_broken(mode: Mode, kind: Kind, contents: &[u8]) -> Option<(Rule, usi
         Kind::NumericString => at_first(string_broken(mode, kind, contents)),
         Kind::PrintableString => at_first(string_broken(mode, kind, contents)),
         Kind::Ia5String => at_first(string_broken(mode, kind, contents)),
+        Kind::UtcTime => at_first(string_broken(mode, kind, contents)),
+        Kind::GeneralizedTime => at_first(string_broken(mode, kind, contents)),
         Kind::Null => at_first(null_broken(mode, contents)),
         Kind::Identifier => identifier_broken(mode, contents),
         Kind::Structure => unreachable!(),

@@ -32,6 +32,12 @@ pub enum Kind {
     /// IA5String.
     Ia5String,
 
+    /// UTCTime.
+    UtcTime,
+
+    /// GeneralizedTime.
+    GeneralizedTime,
+
     /// NULL.
     Null,
 
@@ -63,7 +69,9 @@ pub(crate) fn kind_of(tag: Tag) -> Kind
         18 => Kind::NumericString,
         19 => Kind::PrintableString,
         22 => Kind::Ia5String,
-        4 | 7 | 20..=28 | 30 => Kind::OctetString,
+        23 => Kind::UtcTime,
+        24 => Kind::GeneralizedTime,
+        4 | 7 | 20 | 21 | 25..=28 | 30 => Kind::OctetString,
         _ => Kind::Other,
     }
 }

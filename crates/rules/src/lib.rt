@@ -9,6 +9,7 @@ mod judge;
 pub mod kind;
 pub mod rule;
 mod text;
+mod time;
 mod walk;
 
 pub use rule::{Breach, Rule};

@@ -61,7 +61,8 @@ pub enum Rule {
     /// In CER, a primitive string has more than 1000 contents octets (9.2).
     StringTooLong,
 
-    /// The octets of a string aren't characters of its type (8.23).
+    /// The octets of a string aren't characters of its type (8.23), or, in CER or DER, those of a
+    /// time not in its one form (11.7, 11.8).
     Characters(Kind),
 
     /// A NULL has contents octets (8.8.2).

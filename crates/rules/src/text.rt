@@ -1,6 +1,7 @@
 //! What is said of rules.
 ghost use Rattle.std.specs.Prelude.{◌≡◌};
-ghost use Rattle.rules.specs.Texts.{characters_clause, clause_of, constructed_text};
+ghost use Rattle.rules.specs.Texts.{characters_clause, characters_wanted, clause_of};
+ghost use Rattle.rules.specs.Texts.{constructed_text};
 ghost use Rattle.rules.specs.Texts.{header_clause, header_wanted, no_characters};
 ghost use Rattle.rules.specs.Texts.{primitive_clause, title_of, wanted_of};
 
@@ -44,6 +45,8 @@ fn no_characters(kind: Kind) -> &'static str
         Kind::NumericString => "NumericString with other characters",
         Kind::PrintableString => "PrintableString with other characters",
         Kind::Ia5String => "IA5String with other characters",
+        Kind::UtcTime => "UTCTime in another form",
+        Kind::GeneralizedTime => "GeneralizedTime in another form",
         _ => "string with other characters",
     }
 }
@@ -54,7 +57,20 @@ fn characters_clause(kind: Kind) -> &'static str
 {
     match kind {
         Kind::Utf8String => "8.23.10",
+        Kind::UtcTime => "11.8",
+        Kind::GeneralizedTime => "11.7",
         _ => "8.23.5",
+    }
+}
+
+/// Returns which characters the type of a kind wants.
+fn characters_wanted(kind: Kind) -> &'static str
+    ensures { result.now ≡ characters_wanted kind }
+{
+    match kind {
+        Kind::UtcTime => "YYMMDDhhmmssZ",
+        Kind::GeneralizedTime => "YYYYMMDDhhmmssZ, with .f before Z if f isn't 0",
+        _ => "characters of the type",
     }
 }
 
@@ -182,7 +198,7 @@ impl Rule {
             Rule::UnusedNotZero => "unused bits that are zero",
             Rule::BitsTooMany => "fewer octets, by the limit here",
             Rule::StringTooLong => "segments of 1000 octets",
-            Rule::Characters(_) => "characters of the type",
+            Rule::Characters(kind) => characters_wanted(kind),
             Rule::NullNotEmpty => "no octets",
             Rule::IdentifierCut => "an octet below 80 at the end",
             Rule::IdentifierNotFewest => "another octet than 80",
