@@ -59,20 +59,20 @@ value_goes x t false size c o os ps y at then (of_definite h b d e is s) i =
     let whole : x ≡ (h ++ c) ++ y = is ∙ ap (λ w. h ++ (c ++ w)) by ∙ sym (append_assoc h c y) in
     let step : Step Ber os x os y (h ++ c) (heading_of t false os ∷ []) = of_primitive t h c d (is ∙ ap (λ w. h ++ (c ++ w)) by) refl refl refl in
     let g : GoesTo os x at os y then = steps os os x y (h ++ c) _ at then step (after_front os (h ++ c) y x whole)
-        (omega (arith, i.2, s, length-append h c)) (omega (arith, length-append h c, header_size Ber t false _ h d)) in
+    (omega (arith, i.2, s, length-append h c)) (omega (arith, length-append h c, header_size Ber t false _ h d)) in
     rw i.0 g
 value_goes x t true size c o os ps y at then (of_definite h b d e is s) i =
     let step : Step Ber os x (Some b ∷ os) c h (heading_of t true os ∷ []) = into_definite t h b d is refl refl refl in
     let come : to_come os x ≡ h ++ to_come (Some b ∷ os) c =
-        after_front os h (c ++ b) x is ∙ ap (λ w. h ++ w) (after_front os c b (c ++ b) refl) in
+    after_front os h (c ++ b) x is ∙ ap (λ w. h ++ w) (after_front os c b (c ++ b) refl) in
     let g : GoesTo os x at (Some b ∷ os) c then = steps os (Some b ∷ os) x c h _ at then step come (omega (arith, i.2, s))
-        (omega (arith, header_size Ber t true _ h d)) in
+    (omega (arith, header_size Ber t true _ h d)) in
     rw (i.0, i.1, e) g
 value_goes x t false size c o os ps y at then (of_indefinite h d e is s) i = absurd (none_is _ (sym e ∙ i.1))
 value_goes x t true size c o os ps y at then (of_indefinite h d e is s) i =
     let step : Step Ber os x (None ∷ os) c h (heading_of t true os ∷ []) = into_indefinite t h d is refl refl refl in
     let g : GoesTo os x at (None ∷ os) c then = steps os (None ∷ os) x c h _ at then step (after_front os h c x is) (omega (arith, i.2, s))
-        (omega (arith, header_size Ber t true _ h d)) in
+    (omega (arith, header_size Ber t true _ h d)) in
     rw (i.0, i.1, e) g
 
 -- a primitive value has a definite length

@@ -64,9 +64,10 @@ one_less begins b w (suc p) h = record {
 
 at_none : (begins : Bool) (w : List ℕ) → ((p : ℕ) → PaddedAt begins w p → ⊥) → Fine begins w
 at_none begins [] n = tt
-at_none begins (b ∷ w) n =
-    (λ e is. n zero (record { inside = omega arith; padding = is; first = λ z. e; behind = λ l. absurd (omega (arith, l)) }),
-    at_none (nat_lt b 0x80) w (λ p h. n (suc p) (one_more begins b w p h)))
+at_none begins (b ∷ w) n = (
+  λ e is. n zero (record { inside = omega arith; padding = is; first = λ z. e; behind = λ l. absurd (omega (arith, l)) }),
+  at_none (nat_lt b 0x80) w (λ p h. n (suc p) (one_more begins b w p h)),
+)
 
 at_one : (begins : Bool) (w : List ℕ) (p : ℕ) → PaddedAt begins w p → Fine begins w → ⊥
 at_one begins [] p h f = omega (arith, h.inside)
@@ -127,9 +128,9 @@ mutual
   fine_inside a front (b ∷ d ∷ w) c h =
       elim (ends_one b) [
         | inl e ↦ (let k = subst AreFewest (ended (a ∷ front) b (d ∷ w) e) h in
-        (k.0, (λ f. absurd (not_true f), subst (λ r. Fine r (d ∷ w)) (sym e) (fine (d ∷ w) c k.1))))
+            (k.0, (λ f. absurd (not_true f), subst (λ r. Fine r (d ∷ w)) (sym e) (fine (d ∷ w) c k.1))))
         | inr e ↦ (let k = fine_inside a (front ++ b ∷ []) (d ∷ w) c (subst AreFewest (goes_on (a ∷ front) b (d ∷ w) e) h) in
-        (k.0, (λ f. absurd (not_true f), subst (λ r. Fine r (d ∷ w)) (sym e) k.1)))
+            (k.0, (λ f. absurd (not_true f), subst (λ r. Fine r (d ∷ w)) (sym e) k.1)))
       ]
 
 -- ---- both

@@ -50,16 +50,18 @@ mutual
 mutual
   pieces_meant : (mode : Mode) (t : Tree) → All (IsPieceMeant mode) (pieces t) → IsMeant mode t
   pieces_meant mode (primitive t c) h = All-first (IsPieceMeant mode) (value t c) [] h
-  pieces_meant mode (constructed t ts) h =
-      (All-first (IsPieceMeant mode) (begins t) (pieces_of ts ++ ends ∷ []) h,
-      all_pieces_meant mode ts (All-front (IsPieceMeant mode) (pieces_of ts) (ends ∷ [])
-      (All-back (IsPieceMeant mode) (begins t ∷ []) (pieces_of ts ++ ends ∷ []) h)))
+  pieces_meant mode (constructed t ts) h = (
+    All-first (IsPieceMeant mode) (begins t) (pieces_of ts ++ ends ∷ []) h,
+    all_pieces_meant mode ts (All-front (IsPieceMeant mode) (pieces_of ts) (ends ∷ [])
+        (All-back (IsPieceMeant mode) (begins t ∷ []) (pieces_of ts ++ ends ∷ []) h)),
+  )
 
   all_pieces_meant : (mode : Mode) (ts : Trees) → All (IsPieceMeant mode) (pieces_of ts) → AreMeant mode ts
   all_pieces_meant mode no_trees h = tt
-  all_pieces_meant mode (t ∷ₜ ts) h =
-      (pieces_meant mode t (All-front (IsPieceMeant mode) (pieces t) (pieces_of ts) h),
-      all_pieces_meant mode ts (All-back (IsPieceMeant mode) (pieces t) (pieces_of ts) h))
+  all_pieces_meant mode (t ∷ₜ ts) h = (
+    pieces_meant mode t (All-front (IsPieceMeant mode) (pieces t) (pieces_of ts) h),
+    all_pieces_meant mode ts (All-back (IsPieceMeant mode) (pieces t) (pieces_of ts) h),
+  )
 
 -- ---- the walk
 

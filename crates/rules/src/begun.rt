@@ -78,7 +78,13 @@ pub(crate) fn close<'a>(
         (λ r. Closes mode (option_map (λ s. s.now) innermost.entry) rest.now r.1.now r.0) }
 {
     match innermost {
-        Some(behind) => { if rest.is_empty() { Some((0, behind)) } else { None } }
+        Some(behind) => {
+            if rest.is_empty() {
+                Some((0, behind))
+            } else {
+                None
+            }
+        }
         None => match end_at(mode, rest) {
             Some(after) => Some((rest.len() - after.len(), after)),
             None => None,

@@ -28,10 +28,7 @@ fn is_hour(octets: &[u8], at: usize) -> bool
 pub(crate) fn is_utc_time(octets: &[u8]) -> bool
     ensures { IsTrue result ↔ IsUtcTime octets.now }
 {
-    octets.len() == 13
-        && are_digits(octets, 0, 12)
-        && is_hour(octets, 6)
-        && octets[12] == b'Z'
+    octets.len() == 13 && are_digits(octets, 0, 12) && is_hour(octets, 6) && octets[12] == b'Z'
 }
 
 /// Returns whether a fraction of a second and `Z` follow the first 14 octets (11.7.3, 11.7.4).
@@ -61,8 +58,5 @@ fn ends_time(octets: &[u8]) -> bool
 pub(crate) fn is_generalized_time(octets: &[u8]) -> bool
     ensures { IsTrue result ↔ IsGeneralizedTime octets.now }
 {
-    octets.len() >= 15
-        && are_digits(octets, 0, 14)
-        && is_hour(octets, 8)
-        && ends_time(octets)
+    octets.len() >= 15 && are_digits(octets, 0, 14) && is_hour(octets, 8) && ends_time(octets)
 }
