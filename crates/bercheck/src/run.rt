@@ -28,7 +28,8 @@ fn write_lines<W: io::Write, E: io::Write>(
 ) -> Status
     ensures right { result ≡ Right → found.now ≡ [] }
     ensures broken { result ≡ Broken → found.now ≢ [] }
-    ensures silent { found.now ≡ [] → (result ≡ Right) × Keeps (W.contents out.old) (W.contents out.new)
+    ensures silent { found.now ≡ [] → (result ≡ Right)
+        × Keeps (W.contents out.old) (W.contents out.new)
         × Keeps (E.contents err.old) (E.contents err.new) }
 {
     if found.is_empty() {

@@ -199,7 +199,8 @@ definite_behind [] ps d = d
 definite_behind (Some b ∷ os) ps d = tt
 definite_behind (None ∷ os) ps d = definite_behind os ps d
 
-opened_first : (o : Option (Bor (List ℕ))) (opened : List (Option (Bor (List ℕ)))) → open_values (o ∷ opened) ≡ open_values opened ++ option_map (λ s. s.now) o ∷ []
+opened_first : (o : Option (Bor (List ℕ))) (opened : List (Option (Bor (List ℕ))))
+    → open_values (o ∷ opened) ≡ open_values opened ++ option_map (λ s. s.now) o ∷ []
 opened_first o opened = reverse-append (option_map (λ s. s.now) o ∷ []) (map (option_map (λ s. s.now)) opened)
 
 -- one that is in memory at a place

@@ -38,7 +38,8 @@ pub record Adds (mode : Mode) (os : List Open) (x : List ℕ) (at : ℕ) (old ne
   pub hold : (octets : List ℕ) → Comes octets os x at → All (Holds mode octets) more
 
 -- what a value without those inside it breaks was told, if contents octets count
-pub data Looks (mode : Mode) (contents : Bool) (t : Tag) (form : Bool) (size : ℕ) (c : List ℕ) (at : ℕ) (old new : List Breach) : Type 0 where
+pub data Looks (mode : Mode) (contents : Bool) (t : Tag) (form : Bool) (size : ℕ) (c : List ℕ) (at : ℕ)
+    (old new : List Breach) : Type 0 where
   nothing : new ≡ old → (contents ≡ true → IsMeantAlone mode t form c) → Looks mode contents t form size c at old new
   told : (rule : Rule) (place : ℕ) → new ≡ old ++ record { at = at + place; rule = rule } ∷ [] → contents ≡ true
       → BreaksValue mode t form size c rule place → (IsMeantAlone mode t form c → ⊥) → Looks mode contents t form size c at old new
@@ -75,7 +76,8 @@ pub data IsWrong (mode : Mode) (contents : Bool) (os : List Open) (x : List ℕ)
       → IsWrong mode contents os x
 
 -- nothing was added, and the next piece was passed, which breaks no rule; or something was added, and not without reason
-pub data Judges (mode : Mode) (contents : Bool) (os : List Open) (x : List ℕ) (ps : List Open) (y : List ℕ) (old new : List Breach) : Type 0 where
+pub data Judges (mode : Mode) (contents : Bool) (os : List Open) (x : List ℕ) (ps : List Open) (y : List ℕ)
+    (old new : List Breach) : Type 0 where
   clean : new ≡ old → (p : Piece) → pieces_left mode os x ≡ before_all (p ∷ []) (pieces_left mode ps y) → IsKept mode contents p
       → Judges mode contents os x ps y old new
   wrong : length old < length new → IsWrong mode contents os x → Judges mode contents os x ps y old new

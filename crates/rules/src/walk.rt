@@ -135,7 +135,8 @@ fn enter<'a>(
     requires room { at + begun.now.size + length begun.now.contents.now < 2 ^ 64 }
     requires form { IfNone begun.now.behind (begun.now.constructed ≡ true) }
     ensures { IfOk result (λ p. Enters begun.now.constructed begun.now.size
-        begun.now.contents.now (option_map (λ s. s.now) begun.now.behind) at (open_values opened.old.items)
+        begun.now.contents.now (option_map (λ s. s.now) begun.now.behind) at
+        (open_values opened.old.items)
         (open_values opened.new.items) p.rest.now p.at) }
 {
     let inner = at + begun.size;

@@ -17,7 +17,8 @@ loop-place-smaller c = c.in-Ok.ensures.onward.goes.smaller
 pub returns-clause-none : goal.returns-clause-none
 returns-clause-none c =
     let o : AreOctets c.args.octets.now = λ i. omega (arith, c.type_inv.octets i) in
-    walk_ends _ _ _ _ _ _ _ o (none_open c.loop-place.opened.items (search rules)) (nothing_in c.loop-place.place.rest.now (search rules)) c.loop-place.invariant
+    walk_ends _ _ _ _ _ _ _ o (none_open c.loop-place.opened.items (search rules))
+    (nothing_in c.loop-place.place.rest.now (search rules)) c.loop-place.invariant
 
 pub returns-clause-hold : goal.returns-clause-hold
 returns-clause-hold c = c.loop-place.invariant.hold

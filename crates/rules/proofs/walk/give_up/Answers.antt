@@ -19,4 +19,6 @@ loop-innermost-preserved c =
     up_marked _ _ _ c.requires.end _ c.loop-innermost.invariant _ o
 
 pub returns : goal.returns
-returns c = up_all _ _ _ c.requires.end _ c.loop-innermost.invariant (none_open c.loop-innermost.opened.items (search rules)) _ (nothing_in c.split_at.result.1.now (search rules)) c.requires.some
+returns c =
+    up_all _ _ _ c.requires.end _ c.loop-innermost.invariant (none_open c.loop-innermost.opened.items (search rules)) _
+    (nothing_in c.split_at.result.1.now (search rules)) c.requires.some

@@ -13,7 +13,8 @@ pass_beyond-requires-clause-beyond c = beyond_in_ber _ _ c.in-Beyond.ensures
 pub returns-in-Value : goal.returns-in-Value
 returns-in-Value c =
     let o : AreOctets c.args.rest.now = λ i. omega (arith, c.type_inv.rest i) in
-    value_due _ c.args.contents _ _ _ _ _ c.args.found.now.items _ (λ p. p.rest.now) (λ p. p.at) _ _ _ _ _ _ o c.requires.due c.in-Value.ensures c.pass_value.ensures
+    value_due _ c.args.contents _ _ _ _ _ c.args.found.now.items _ (λ p. p.rest.now) (λ p. p.at) _ _ _ _ _ _ o c.requires.due
+    c.in-Value.ensures c.pass_value.ensures
 
 pub returns-in-Beyond : goal.returns-in-Beyond
 returns-in-Beyond c =
