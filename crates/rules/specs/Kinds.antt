@@ -1,0 +1,41 @@
+-- The kinds of types, by their tags (ITU-T X.680, 8.4).
+use Rattle.std.specs.Prelude.{ℕ, Bool, ◌||◌, ◌==◌, if◌then◌else◌}
+use Rattle.std.specs.Int.{is_in_range}
+use Rattle.bcder.specs.x690.Identifier.{Class, universal, application, context_specific, private, Tag}
+use Rattle.rules.specs.declared.kind.Kind.{Kind}
+use Rattle.rules.specs.declared.kind.Kind.TheVariants as k
+
+-- OCTET STRING, ObjectDescriptor, TeletexString, VideotexString, the strings from GraphicString to UniversalString, and BMPString
+abbrev pub is_string : ℕ → Bool
+is_string n = ((n == 4 || n == 7) || (n == 20 || n == 21)) || (is_in_range 25 28 n || n == 30)
+
+-- EXTERNAL, EMBEDDED PDV, SEQUENCE, SET, CHARACTER STRING
+abbrev pub is_structure : ℕ → Bool
+is_structure n = ((n == 8 || n == 11) || (n == 16 || n == 17)) || n == 29
+
+abbrev pub kind_of_number : ℕ → Kind
+kind_of_number n =
+    if n == 1 then k.Boolean
+    else if n == 2 || n == 10 then k.Integer
+    else if n == 3 then k.BitString
+    else if n == 5 then k.Null
+    else if n == 6 || n == 13 then k.Identifier
+    else if is_structure n then k.Structure
+    else if n == 12 then k.Utf8String
+    else if n == 18 then k.NumericString
+    else if n == 19 then k.PrintableString
+    else if n == 22 then k.Ia5String
+    else if n == 23 then k.UtcTime
+    else if n == 24 then k.GeneralizedTime
+    else if is_string n then k.OctetString
+    else k.Other
+
+-- only a universal tag tells the type
+abbrev pub kind_of : Tag → Kind
+kind_of t = of_class t.class t.number
+  where
+    of_class : Class → ℕ → Kind
+    of_class universal n = kind_of_number n
+    of_class application n = k.Other
+    of_class context_specific n = k.Other
+    of_class private n = k.Other

@@ -1,0 +1,207 @@
+//! What is said of rules.
+ghost use Rattle.std.specs.Prelude.{◌≡◌};
+ghost use Rattle.rules.specs.Texts.{characters_clause, characters_wanted, clause_of};
+ghost use Rattle.rules.specs.Texts.{constructed_text};
+ghost use Rattle.rules.specs.Texts.{header_clause, header_wanted, no_characters};
+ghost use Rattle.rules.specs.Texts.{primitive_clause, title_of, wanted_of};
+
+use crate::kind::Kind;
+use crate::rule::Rule;
+use bcder::Mode;
+use bcder::decode::Violation;
+
+/// Returns what a constructed value of a kind is called.
+fn constructed(kind: Kind) -> &'static str
+    ensures { result.now ≡ constructed_text kind }
+{
+    match kind {
+        Kind::Boolean => "constructed BOOLEAN",
+        Kind::Integer => "constructed INTEGER or ENUMERATED",
+        Kind::Null => "constructed NULL",
+        Kind::Identifier => "constructed OBJECT IDENTIFIER or RELATIVE-OID",
+        _ => "constructed value",
+    }
+}
+
+/// Returns the clause of the rule that a value of a kind is primitive.
+fn primitive_clause(kind: Kind) -> &'static str
+    ensures { result.now ≡ primitive_clause kind }
+{
+    match kind {
+        Kind::Boolean => "8.2.1",
+        Kind::Integer => "8.3.1",
+        Kind::Null => "8.8.1",
+        Kind::Identifier => "8.19.1",
+        _ => "8.1.2.5",
+    }
+}
+
+/// Returns what a string of a kind is called whose octets aren't characters of its type.
+fn no_characters(kind: Kind) -> &'static str
+    ensures { result.now ≡ no_characters kind }
+{
+    match kind {
+        Kind::Utf8String => "UTF8String that isn't UTF-8",
+        Kind::NumericString => "NumericString with other characters",
+        Kind::PrintableString => "PrintableString with other characters",
+        Kind::Ia5String => "IA5String with other characters",
+        Kind::UtcTime => "UTCTime in another form",
+        Kind::GeneralizedTime => "GeneralizedTime in another form",
+        _ => "string with other characters",
+    }
+}
+
+/// Returns the clause of the rule that octets are characters of the type of a kind.
+fn characters_clause(kind: Kind) -> &'static str
+    ensures { result.now ≡ characters_clause kind }
+{
+    match kind {
+        Kind::Utf8String => "8.23.10",
+        Kind::UtcTime => "11.8",
+        Kind::GeneralizedTime => "11.7",
+        _ => "8.23.5",
+    }
+}
+
+/// Returns which characters the type of a kind wants.
+fn characters_wanted(kind: Kind) -> &'static str
+    ensures { result.now ≡ characters_wanted kind }
+{
+    match kind {
+        Kind::UtcTime => "YYMMDDhhmmssZ",
+        Kind::GeneralizedTime => "YYYYMMDDhhmmssZ, with .f before Z if f isn't 0",
+        _ => "characters of the type",
+    }
+}
+
+/// Returns the clause of a rule of headers.
+fn header_clause(violation: Violation, mode: Mode) -> &'static str
+    ensures { result.now ≡ header_clause violation mode }
+{
+    match violation {
+        Violation::TruncatedHeader => "8.1.1.1",
+        Violation::TruncatedContents => "8.1.1.2",
+        Violation::TagNotFewest => "8.1.2.2, 8.1.2.4.2 c",
+        Violation::TagTooLarge => "8.1.2.4",
+        Violation::ReservedTag | Violation::StrayEnd => "8.1.5",
+        Violation::ReservedLength => "8.1.3.5 c",
+        Violation::LengthTooLarge => "8.1.3.5",
+        Violation::LengthNotFewest => match mode {
+            Mode::Cer => "9.1",
+            Mode::Ber | Mode::Der => "10.1",
+        },
+        Violation::PrimitiveIndefinite => "8.1.3.2",
+        Violation::IndefiniteInDer => "10.1",
+        Violation::DefiniteInCer => "9.1",
+        Violation::ValueTooLong => "8.1.3.3",
+    }
+}
+
+/// Returns what a rule of headers wants.
+fn header_wanted(violation: Violation) -> &'static str
+    ensures { result.now ≡ header_wanted violation }
+{
+    match violation {
+        Violation::TruncatedHeader => "a whole header",
+        Violation::TruncatedContents => "as many contents octets as the length says",
+        Violation::TagNotFewest => "a number up to 30 in one octet, another with no leading 80",
+        Violation::TagTooLarge => "a number up to 2097151, the limit here",
+        Violation::ReservedTag => "another tag",
+        Violation::ReservedLength => "another length octet than FF",
+        Violation::LengthTooLarge => "up to four octets for a length, the limit here",
+        Violation::LengthNotFewest => "the fewest octets for the length",
+        Violation::PrimitiveIndefinite | Violation::IndefiniteInDer => "a definite length",
+        Violation::DefiniteInCer => "an indefinite length",
+        Violation::ValueTooLong => "an end in the value around it",
+        Violation::StrayEnd => "a value",
+    }
+}
+
+impl Rule {
+    /// Returns what is wrong where the rule is broken.
+    pub fn title(self) -> &'static str
+        ensures { result.now ≡ title_of self }
+    {
+        match self {
+            Rule::Header(violation) => violation.text(),
+            Rule::ContentsCut => "contents cut short",
+            Rule::ValueTooLong => "value longer than the value around it",
+            Rule::StrayEnd => "end-of-contents octets where none belong",
+            Rule::MissingEnd => "end-of-contents octets missing",
+            Rule::NotPrimitive(kind) => constructed(kind),
+            Rule::NotConstructed => "primitive SEQUENCE, SET or the like",
+            Rule::StringCut => "constructed string in DER",
+            Rule::BooleanSize => "BOOLEAN not of one octet",
+            Rule::BooleanValue => "BOOLEAN neither 00 nor FF",
+            Rule::IntegerEmpty => "INTEGER of no octets",
+            Rule::IntegerNotFewest => "INTEGER not in the fewest octets",
+            Rule::BitsEmpty => "BIT STRING of no octets",
+            Rule::UnusedTooMany => "more than seven unused bits",
+            Rule::UnusedOfNone => "unused bits of an empty BIT STRING",
+            Rule::UnusedNotZero => "unused bits not zero",
+            Rule::BitsTooMany => "BIT STRING of 2^61 octets or more",
+            Rule::StringTooLong => "primitive string of over 1000 octets in CER",
+            Rule::Characters(kind) => no_characters(kind),
+            Rule::NullNotEmpty => "NULL with contents octets",
+            Rule::IdentifierCut => "OBJECT IDENTIFIER without an end",
+            Rule::IdentifierNotFewest => "subidentifier not in the fewest octets",
+        }
+    }
+
+    /// Returns the clause of X.690 that states the rule in a mode.
+    pub fn clause(self, mode: Mode) -> &'static str
+        ensures { result.now ≡ clause_of self mode }
+    {
+        match self {
+            Rule::Header(violation) => header_clause(violation, mode),
+            Rule::ContentsCut => "8.1.1.2",
+            Rule::ValueTooLong => "8.1.3.3",
+            Rule::StrayEnd => "8.1.5",
+            Rule::MissingEnd => "8.1.1.3",
+            Rule::NotPrimitive(kind) => primitive_clause(kind),
+            Rule::NotConstructed => "8.9.1",
+            Rule::StringCut => "10.2",
+            Rule::BooleanSize => "8.2.1",
+            Rule::BooleanValue => "11.1",
+            Rule::IntegerEmpty => "8.3.1",
+            Rule::IntegerNotFewest => "8.3.2",
+            Rule::BitsEmpty | Rule::UnusedTooMany => "8.6.2.2",
+            Rule::UnusedOfNone => "8.6.2.3",
+            Rule::UnusedNotZero => "11.2.1",
+            Rule::BitsTooMany => "8.6.2",
+            Rule::StringTooLong => "9.2",
+            Rule::Characters(kind) => characters_clause(kind),
+            Rule::NullNotEmpty => "8.8.2",
+            Rule::IdentifierCut | Rule::IdentifierNotFewest => "8.19.2",
+        }
+    }
+
+    /// Returns what the rule wants in place of what stands there.
+    pub fn wanted(self) -> &'static str
+        ensures { result.now ≡ wanted_of self }
+    {
+        match self {
+            Rule::Header(violation) => header_wanted(violation),
+            Rule::ContentsCut => "as many contents octets as the length says",
+            Rule::ValueTooLong => "an end in the value around it",
+            Rule::StrayEnd => "a value",
+            Rule::MissingEnd => "00 00",
+            Rule::NotPrimitive(_) | Rule::StringCut => "a primitive encoding",
+            Rule::NotConstructed => "a constructed encoding",
+            Rule::BooleanSize => "one octet",
+            Rule::BooleanValue => "00 or FF",
+            Rule::IntegerEmpty => "an octet or more",
+            Rule::IntegerNotFewest => "nine bits that aren't all equal",
+            Rule::BitsEmpty => "an octet that counts the unused bits",
+            Rule::UnusedTooMany => "a number up to 7",
+            Rule::UnusedOfNone => "00",
+            Rule::UnusedNotZero => "unused bits that are zero",
+            Rule::BitsTooMany => "fewer octets, by the limit here",
+            Rule::StringTooLong => "segments of 1000 octets",
+            Rule::Characters(kind) => characters_wanted(kind),
+            Rule::NullNotEmpty => "no octets",
+            Rule::IdentifierCut => "an octet below 80 at the end",
+            Rule::IdentifierNotFewest => "another octet than 80",
+        }
+    }
+}
