@@ -1,5 +1,5 @@
 -- What a run wrote, at each way that it can go.
-use Rattle.std.proofs.Common.{◌≡◌, ◌≢◌, ◌≤◌, ◌<◌, ℕ, List, [], ◌∷◌, ◌++◌, Bool, true, false, Option, Some, None, codes, drop, length, refl, sym, ap}
+use Rattle.std.proofs.Common.{◌≡◌, ◌≢◌, ◌≤◌, ◌<◌, ℕ, List, [], ◌∷◌, ◌++◌, Bool, true, false, Option, Some, None, codes, drop, length, get_or, suc, ◌+◌, add-one, refl, sym, ap}
 use Rattle.std.proofs.Common.{subst, ◌∙◌, append_assoc, append-nil, inl, inr, ◌⊎◌}
 use Rattle.std.proofs.KnownBytes.{Appends-trans, Appends-kept, Keeps-refl, Keeps-trans}
 use Rattle.std.specs.Io.KnownBytes.{Appends, Keeps}
@@ -12,11 +12,12 @@ use Rattle.berdump.specs.declared.status.Status.{Status}
 use Rattle.berdump.specs.declared.status.Status.TheVariants as status
 use Rattle.berdump.specs.Answers.{Listed, ListedInPart, CutOff, IsUnlisted}
 use Rattle.berdump.specs.Runs.{Ends, IsWhole, IsTitle, AnyTitle, Titled, TitleCutOff, IsText, IsTextInPart, AreWhole, AreParts, joined, AllWritten, SomeWritten, CutWritten}
-use Rattle.berdump.specs.Runs.{IsBound, IsUntitled, status_of, BlockTitled, BlocksListed, FilesListed}
+use Rattle.berdump.specs.Runs.{IsBound, IsUntitled, status_of, BlockTitled, BlocksListed, IsFile, FilesListed}
 use Rattle.berdump.specs.declared.request.Request.{Request}
 use Rattle.cli.specs.declared.files.Input.{Input}
 use Rattle.cli.specs.declared.pem.Block.{Block}
 use Rattle.cli.specs.Pem.{IsNext, HasNoBlock}
+use Rattle.std.proofs.Math.Seq.{drop-cons}
 use Rattle.berdump.proofs.Walking.{written_kept, keeps_nil}
 
 -- ---- octets
@@ -298,3 +299,29 @@ bound_kept scope mode a b c s h k = record {
 pub bound_unflushed : (scope : Scope) (mode : Mode) (a b c : Option (List ℕ)) (s t : Status) → IsBound scope mode a b s → Keeps b c → t ≡ status.Failed
     → IsBound scope mode a c t
 bound_unflushed scope mode a b c s t h k e = bound_cut scope mode a c t e (bound_kept scope mode a b c s h k).cut
+
+-- ---- steps that write a block or a file more
+
+pub next_block : (request : Request) (first : Bool) (all rest : List ℕ) (block : Block) (a b c : Option (List ℕ)) (s t u : Status)
+    → (u ≡ status.Written → (s ≡ status.Written) × (t ≡ status.Written))
+    → (s ≡ status.Written → (end : Option (List ℕ)) → BlocksListed request first rest b end → BlocksListed request true all a end)
+    → IsNext rest block → (t ≡ status.Written → BlockTitled request first block b c)
+    → u ≡ status.Written → (end : Option (List ℕ)) → BlocksListed request false block.rest.now c end → BlocksListed request true all a end
+next_block request first all rest block a b c s t u both so_far n titled z end m =
+    let p = both z in
+    so_far p.0 end (BlocksListed.more block c n (titled p.1) m)
+
+file_at : (xs : List Input) (i : ℕ) (x : Input) → i < length xs → x ≡ get_or xs i x → drop i xs ≡ x ∷ drop (i + 1) xs
+file_at xs i x k e = drop-cons xs i x k ∙ ap (λ z. z ∷ drop (suc i) xs) (sym e) ∙ ap (λ j. x ∷ drop j xs) (sym (add-one i))
+
+pub next_file : (request : Request) (only first f : Bool) (inputs : List Input) (i : ℕ) (x : Input) (a b c : Option (List ℕ)) (s t u : Status)
+    → (u ≡ status.Written → (s ≡ status.Written) × (t ≡ status.Written))
+    → (s ≡ status.Written → (end : Option (List ℕ)) → FilesListed request only first (drop i inputs) b end → FilesListed request only true inputs a end)
+    → i < length inputs → x ≡ get_or inputs i x → (t ≡ status.Written → IsFile request only first x b c) → (t ≡ status.Written → f ≡ false)
+    → u ≡ status.Written → (end : Option (List ℕ)) → FilesListed request only f (drop (i + 1) inputs) c end → FilesListed request only true inputs a end
+next_file request only first f inputs i x a b c s t u both so_far k e file stays z end m =
+    let p = both z in
+    let rest : FilesListed request only false (drop (i + 1) inputs) c end =
+    subst (λ q. FilesListed request only q (drop (i + 1) inputs) c end) (stays p.1) m in
+    let here : FilesListed request only first (x ∷ drop (i + 1) inputs) b end = (c, file p.1, rest) in
+    so_far p.0 end (subst (λ v. FilesListed request only first v b end) (sym (file_at inputs i x k e)) here)

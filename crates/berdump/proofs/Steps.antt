@@ -6,8 +6,7 @@ use Rattle.std.specs.Borrow.{Bor}
 use Rattle.bcder.specs.declared.mode.Mode.{Mode}
 use Rattle.bcder.specs.x690.Identifier.{Tag}
 use Rattle.bcder.specs.x690.BitString.{bit_string_tag}
-use Rattle.bcder.specs.declared.length.Length.{Length}
-use Rattle.bcder.specs.declared.length.Length.TheVariants as lengths
+use Rattle.bcder.specs.steps.Inside.{limit_inside}
 use Rattle.bcder.specs.calls.Fronts.{BeginsHeader, BeginsEnd}
 use Rattle.bcder.specs.x690.Encoding.{IsHeader}
 use Rattle.bcder.specs.calls.ContentsLen.{length_of}
@@ -184,17 +183,10 @@ room_left scope mode octets w a b es at n s k = let e = within scope mode octets
 
 -- ---- why no value begins
 
-told : Length → Option ℕ
-told (lengths.Definite n) = Some n
-told lengths.Indefinite = None
-
-told_is : (len : Length) → length_of (told len) ≡ len
-told_is (lengths.Definite n) = refl
-told_is lengths.Indefinite = refl
-
 pub stray_end : (mode : Mode) (w : List ℕ)
     → ((t : Tag) (form : Bool) (n : Option ℕ) (h x : List ℕ) → IsHeader mode t form (length_of n) h → w ≡ h ++ x → ⊥)
     → BeginsHeader mode w ⊎ BeginsEnd mode w → BeginsEnd mode w
 stray_end mode w none (inl (t, form, len, h, x, i, e)) =
-    absurd (none t form (told len) h x (subst (λ l. IsHeader mode t form l h) (sym (told_is len)) i) e)
+    let told = elim len as (λ l. length_of (limit_inside l None) ≡ l) [ _ ↦ refl ] in
+    absurd (none t form (limit_inside len None) h x (subst (λ l. IsHeader mode t form l h) (sym told) i) e)
 stray_end mode w none (inr k) = k

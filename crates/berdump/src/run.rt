@@ -22,7 +22,7 @@ use cli::form::{Form, Misspelled, from_base64};
 use cli::pem::{Block, header_in, next_block};
 use std::alloc::Global;
 use std::io;
-use std::io::BufWriter;
+use std::io::{BufWriter, Write};
 
 /// Lists octets on `out`. If not all are listed, `err` says why.
 fn run_octets<W: io::Write, E: io::Write>(
@@ -62,7 +62,7 @@ pub(crate) fn octets_in<E: io::Write>(
     block: Block<'_>,
     err: &mut E,
 ) -> Result<Vec<u8>, Status>
-    ensures octets { IfOk result (λ v. HasOctets block v.items) }
+    ensures octets { IfOk result (λ v. HasOctets block.entry v.items) }
     ensures silent { OnOk result (Keeps (E.contents err.old) (E.contents err.new)) }
     ensures told { IfErr result (λ status. status ≢ Written) }
 {
@@ -97,7 +97,7 @@ fn run_body<W: io::Write, E: io::Write>(
     err: &mut E,
 ) -> Status
     ensures listed { result ≡ Written
-        → BlockListed request block (W.contents out.old) (W.contents out.new) }
+        → BlockListed request block.entry (W.contents out.old) (W.contents out.new) }
     ensures bound { IsBound request.scope request.mode
         (W.contents out.old) (W.contents out.new) result }
     ensures silent { result ≡ Written → Keeps (E.contents err.old) (E.contents err.new) }
@@ -119,7 +119,7 @@ fn run_block<W: io::Write, E: io::Write>(
     err: &mut E,
 ) -> Status
     ensures listed { result ≡ Written
-        → BlockTitled request is_first block (W.contents out.old) (W.contents out.new) }
+        → BlockTitled request is_first block.entry (W.contents out.old) (W.contents out.new) }
     ensures bound { IsBound request.scope request.mode
         (W.contents out.old) (W.contents out.new) result }
     ensures silent { result ≡ Written → Keeps (E.contents err.old) (E.contents err.new) }
@@ -283,9 +283,7 @@ fn run_inputs<W: io::Write, E: io::Write>(
 {
     let mut status = Status::Written;
     let mut is_first = true;
-    let mut rest = inputs;
-    while let [input, behind @ ..] = rest {
-        rest = behind;
+    for input in inputs {
         let found = run_input(alloc, request, inputs.len() == 1, is_first, input, out, err);
         if found == Status::Failed {
             return Status::Failed;
