@@ -10,9 +10,9 @@ use Rattle.berdump.specs.declared.list.ListError.TheVariants.{Refused, NoMemory,
 use Rattle.berdump.specs.declared.scope.Scope.{Scope}
 use Rattle.berdump.specs.declared.status.Status.{Status}
 use Rattle.berdump.specs.declared.status.Status.TheVariants as status
-use Rattle.berdump.specs.Answers.{Listed, ListedInPart, CutOff, IsUnlisted}
+use Rattle.berdump.specs.Answers.{Listed, ListedInPart, CutOff, IsUnlisted, HasContents}
 use Rattle.berdump.specs.Runs.{Ends, IsWhole, IsTitle, AnyTitle, Titled, TitleCutOff, IsText, IsTextInPart, AreWhole, AreParts, joined, AllWritten, SomeWritten, CutWritten}
-use Rattle.berdump.specs.Runs.{IsBound, IsUntitled, status_of, BlockTitled, BlocksListed, IsFile, FilesListed}
+use Rattle.berdump.specs.Runs.{IsBound, IsUntitled, status_of, BlockTitled, BlocksListed, IsFile, FilesListed, ValueWritten}
 use Rattle.berdump.specs.declared.request.Request.{Request}
 use Rattle.cli.specs.declared.files.Input.{Input}
 use Rattle.cli.specs.declared.pem.Block.{Block}
@@ -325,3 +325,15 @@ next_file request only first f inputs i x a b c s t u both so_far k e file stays
     subst (λ q. FilesListed request only q (drop (i + 1) inputs) c end) (stays p.1) m in
     let here : FilesListed request only first (x ∷ drop (i + 1) inputs) b end = (c, file p.1, rest) in
     so_far p.0 end (subst (λ v. FilesListed request only first v b end) (sym (file_at inputs i x k e)) here)
+
+-- ---- the contents octets of a value
+
+pub value_written : (request : Request) (at : ℕ) (octets contents : List ℕ) (a b c : Option (List ℕ))
+    → HasContents (record request.scope { from = 0 }) request.mode octets at contents → Appends a b contents → Keeps b c → ValueWritten request at octets a c
+value_written request at octets contents a b c h k f = record { contents = contents; has = h; appends = Appends-kept a b c contents k f }
+
+pub not_written : (s : Status) → s ≡ status.Refused → s ≡ status.Written → ⊥
+not_written s e h = let z = sym e ∙ h in cc
+
+pub failed_not_written : (s : Status) → s ≡ status.Failed → s ≡ status.Written → ⊥
+failed_not_written s e h = let z = sym e ∙ h in cc
