@@ -1,6 +1,6 @@
 -- What a run wrote, at each way that it can go.
 use Rattle.std.proofs.Common.{◌≡◌, ◌≢◌, ◌≤◌, ◌<◌, ℕ, List, [], ◌∷◌, ◌++◌, Bool, true, false, Option, Some, None, codes, drop, length, get_or, suc, ◌+◌, add-one, refl, sym, ap}
-use Rattle.std.proofs.Common.{subst, ◌∙◌, append_assoc, append-nil, inl, inr, ◌⊎◌}
+use Rattle.std.proofs.Common.{subst, ◌∙◌, append_assoc, append-nil, inl, inr, ◌⊎◌, MatchResult, arith}
 use Rattle.std.proofs.KnownBytes.{Appends-trans, Appends-kept, Keeps-refl, Keeps-trans}
 use Rattle.std.specs.Io.KnownBytes.{Appends, Keeps}
 use Rattle.bcder.specs.declared.mode.Mode.{Mode}
@@ -12,7 +12,7 @@ use Rattle.berdump.specs.declared.status.Status.{Status}
 use Rattle.berdump.specs.declared.status.Status.TheVariants as status
 use Rattle.berdump.specs.Answers.{Listed, ListedInPart, CutOff, IsUnlisted, HasContents}
 use Rattle.berdump.specs.Runs.{Ends, IsWhole, IsTitle, AnyTitle, Titled, TitleCutOff, IsText, IsTextInPart, AreWhole, AreParts, joined, AllWritten, SomeWritten, CutWritten}
-use Rattle.berdump.specs.Runs.{IsBound, IsUntitled, status_of, BlockTitled, BlocksListed, IsFile, FilesListed, ValueWritten}
+use Rattle.berdump.specs.Runs.{IsBound, IsUntitled, status_of, BlockTitled, BlocksListed, IsFile, FilesListed, ValueWritten, IsValueOf, FirstWritten}
 use Rattle.berdump.specs.declared.request.Request.{Request}
 use Rattle.cli.specs.declared.files.Input.{Input}
 use Rattle.cli.specs.declared.pem.Block.{Block}
@@ -337,3 +337,8 @@ not_written s e h = let z = sym e ∙ h in cc
 
 pub failed_not_written : (s : Status) → s ≡ status.Failed → s ≡ status.Written → ⊥
 failed_not_written s e h = let z = sym e ∙ h in cc
+
+pub first_written : (request : Request) (at : ℕ) (inputs : List Input) (x : Input) (a b : Option (List ℕ)) → 1 ≤ length inputs → x ≡ get_or inputs 0 x
+    → MatchResult x.octets (λ v. IsValueOf request at v.items a b) (λ e. ⊥) → FirstWritten request at inputs a b
+first_written request at [] x a b k e h = absurd (omega (arith, k))
+first_written request at (y ∷ ys) x a b k e h = subst (λ q. MatchResult q.octets (λ v. IsValueOf request at v.items a b) (λ e. ⊥)) e h
