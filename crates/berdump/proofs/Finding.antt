@@ -1,6 +1,7 @@
 -- The contents octets of a value that was sought.
 use Rattle.std.proofs.Common.{◌≡◌, ℕ, ◌+◌, ◌≤◌, Bool, List, ◌++◌, Option, Some, None, length, take, drop, refl, sym, ap, subst, ◌∙◌, append_assoc}
-use Rattle.std.proofs.Common.{take-append-drop, inl, inr}
+use Rattle.std.proofs.Common.{take-append-drop, inl, inr, ◌⊎◌, IfSome}
+use Rattle.std.specs.Borrow.{Bor}
 use Rattle.std.proofs.lemmas.List.{length-take-le}
 use Rattle.bcder.specs.declared.mode.Mode.{Mode}
 use Rattle.bcder.specs.x690.Identifier.{Tag}
@@ -8,7 +9,7 @@ use Rattle.bcder.specs.x690.Encoding.{IsHeader}
 use Rattle.bcder.specs.calls.ContentsLen.{length_of}
 use Rattle.berdump.specs.declared.opened.Open.{Open}
 use Rattle.berdump.specs.declared.scope.Scope.{Scope}
-use Rattle.berdump.specs.Answers.{HasContents}
+use Rattle.berdump.specs.Answers.{HasContents, IsDefiniteAt, IsIndefiniteAt}
 use Rattle.berdump.specs.Opened.{behind_all}
 use Rattle.berdump.specs.Walk.{IsAt}
 use Rattle.berdump.proofs.Walking.{Front}
@@ -39,6 +40,9 @@ contents_begun scope mode octets at r c n h e = record {
   offset = h.offset;
   size = inr refl;
 }
+
+front : (mode : Mode) (t : Tag) (form : Bool) (len : Option ℕ) (w h r : List ℕ) → IsHeader mode t form (length_of len) h → w ≡ h ++ r → Front mode t form len w r
+front mode t form len w h r i e = record { header = h; is_header = i; are = e }
 
 module _ (scope : Scope) (mode : Mode) (octets : List ℕ) (a b : Option (List ℕ)) (es : List Open) (w r : List ℕ) (at : ℕ) (t : Tag) (form : Bool)
     (len : Option ℕ) (s : IsAt scope mode octets a b es w at) (f : Front mode t form len w r) (wanted : ℕ) (here : at ≡ wanted) where
@@ -71,3 +75,26 @@ module _ (scope : Scope) (mode : Mode) (octets : List ℕ) (a b : Option (List �
     offset = s.offset ∙ here;
     size = inl (e ∙ ap Some (sym (ap length k ∙ length-take-le n r fits)));
   }
+
+pub found_definite : (scope : Scope) (mode : Mode) (octets : List ℕ) (a b : Option (List ℕ)) (es : List Open) (w : List ℕ) (at wanted : ℕ) (c : List ℕ)
+    → IsAt scope mode octets a b es w at → at ≡ wanted → IsDefiniteAt mode w c → HasContents scope mode octets wanted c
+found_definite scope mode octets a b es w at wanted c s here (t, form, n, h, r, i, e, fits, k) =
+    contents_here scope mode octets a b es w r at t form (Some n) s (front mode t form (Some n) w h r i e) wanted here n c refl fits k
+
+pub found_indefinite : (scope : Scope) (mode : Mode) (octets : List ℕ) (a b : Option (List ℕ)) (es : List Open) (w : List ℕ) (at wanted : ℕ) (r : List ℕ)
+    → IsAt scope mode octets a b es w at → at ≡ wanted → IsIndefiniteAt mode w r → HasBegun scope mode octets wanted r
+found_indefinite scope mode octets a b es w at wanted r s here (t, form, h, i, e) =
+    begun_here scope mode octets a b es w r at t form None s (front mode t form None w h r i e) wanted here refl
+
+pub still_begun : (scope : Scope) (mode : Mode) (octets : List ℕ) (a b : Option (List ℕ)) (es : List Open) (w : List ℕ) (at wanted : ℕ)
+    (o p : Option (Bor (List ℕ))) → IsAt scope mode octets a b es w at → IfSome o (λ r. HasBegun scope mode octets wanted r.now)
+    → IfSome p (λ r. (o ≡ Some r) ⊎ (at ≡ wanted) × IsIndefiniteAt mode w r.now) → IfSome p (λ r. HasBegun scope mode octets wanted r.now)
+still_begun scope mode octets a b es w at wanted o None s h k = tt
+still_begun scope mode octets a b es w at wanted o (Some r) s h (inl e) = subst (λ z. IfSome z (λ r. HasBegun scope mode octets wanted r.now)) e h
+still_begun scope mode octets a b es w at wanted o (Some r) s h (inr k) = found_indefinite scope mode octets a b es w at wanted r.now s k.0 k.1
+
+pub ended : (scope : Scope) (mode : Mode) (octets : List ℕ) (wanted : ℕ) (o : Option (Bor (List ℕ))) (c : List ℕ)
+    → IfSome o (λ r. HasBegun scope mode octets wanted r.now) → (r : Bor (List ℕ)) × (n : ℕ) × (o ≡ Some r) × (c ≡ take n r.now)
+    → HasContents scope mode octets wanted c
+ended scope mode octets wanted o c h (r, n, e, k) =
+    contents_begun scope mode octets wanted r.now c n (subst (λ z. IfSome z (λ r. HasBegun scope mode octets wanted r.now)) e h) k

@@ -1,7 +1,7 @@
 -- What a run wrote, at each way that it can go.
-use Rattle.std.proofs.Common.{◌≡◌, ◌≢◌, ◌≤◌, ◌<◌, ℕ, List, [], ◌∷◌, ◌++◌, Bool, true, false, Option, Some, None, codes, drop, length, refl, sym, ap}
-use Rattle.std.proofs.Common.{subst, ◌∙◌, append_assoc, append-nil, inl, inr, ◌⊎◌}
-use Rattle.std.proofs.KnownBytes.{Appends-trans, Appends-kept, Keeps-trans}
+use Rattle.std.proofs.Common.{◌≡◌, ◌≢◌, ◌≤◌, ◌<◌, ℕ, List, [], ◌∷◌, ◌++◌, Bool, true, false, Option, Some, None, codes, drop, length, get_or, suc, ◌+◌, add-one, refl, sym, ap}
+use Rattle.std.proofs.Common.{subst, ◌∙◌, append_assoc, append-nil, inl, inr, ◌⊎◌, MatchResult, arith}
+use Rattle.std.proofs.KnownBytes.{Appends-trans, Appends-kept, Keeps-refl, Keeps-trans}
 use Rattle.std.specs.Io.KnownBytes.{Appends, Keeps}
 use Rattle.bcder.specs.declared.mode.Mode.{Mode}
 use Rattle.bcder.specs.calls.Target.{AppendsFront, AppendsShorter}
@@ -10,10 +10,14 @@ use Rattle.berdump.specs.declared.list.ListError.TheVariants.{Refused, NoMemory,
 use Rattle.berdump.specs.declared.scope.Scope.{Scope}
 use Rattle.berdump.specs.declared.status.Status.{Status}
 use Rattle.berdump.specs.declared.status.Status.TheVariants as status
-use Rattle.berdump.specs.Answers.{Listed, ListedInPart, CutOff, IsUnlisted}
-use Rattle.berdump.specs.Runs.{Ends, IsTitle, IsText, IsTextInPart, AreWhole, AreParts, joined, AllWritten, SomeWritten, CutWritten}
-use Rattle.berdump.specs.Runs.{IsBound, IsUntitled, IsInput, status_of, between}
+use Rattle.berdump.specs.Answers.{Listed, ListedInPart, CutOff, IsUnlisted, HasContents}
+use Rattle.berdump.specs.Runs.{Ends, IsWhole, IsTitle, AnyTitle, Titled, TitleCutOff, IsText, IsTextInPart, AreWhole, AreParts, joined, AllWritten, SomeWritten, CutWritten}
+use Rattle.berdump.specs.Runs.{IsBound, IsUntitled, status_of, BlockTitled, BlocksListed, IsFile, FilesListed, ValueWritten, IsValueOf, FirstWritten}
 use Rattle.berdump.specs.declared.request.Request.{Request}
+use Rattle.cli.specs.declared.files.Input.{Input}
+use Rattle.cli.specs.declared.pem.Block.{Block}
+use Rattle.cli.specs.Pem.{IsNext, HasNoBlock}
+use Rattle.std.proofs.Math.Seq.{drop-cons}
 use Rattle.berdump.proofs.Walking.{written_kept, keeps_nil}
 
 -- ---- octets
@@ -69,7 +73,7 @@ module _ (scope : Scope) (mode : Mode) where
   text_in_part : (t : List ℕ) → IsText scope mode t → IsTextInPart scope mode t
   text_in_part t h = record { octets = h.octets; headings = h.headings; some = inr h.listed; lines = h.lines }
 
-  one_part : (t : List ℕ) → IsTitle t ⊎ IsText scope mode t → IsTitle t ⊎ IsTextInPart scope mode t
+  one_part : (t : List ℕ) → AnyTitle t ⊎ IsText scope mode t → AnyTitle t ⊎ IsTextInPart scope mode t
   one_part t (inl h) = inl h
   one_part t (inr h) = inr (text_in_part t h)
 
@@ -172,39 +176,30 @@ module _ (scope : Scope) (mode : Mode) where
 
   -- ---- titles
 
-  pub one_title : (t : List ℕ) (a b : Option (List ℕ)) → IsTitle t → Appends a b t → AllWritten scope mode a b
-  one_title t a b h k = record { texts = t ∷ []; are = (inl h, tt); appends = subst (Appends a b) (sym (append-nil t)) k }
-
-  pub title_cut : (t : List ℕ) (a b : Option (List ℕ)) → IsTitle t → AppendsFront a b t → CutWritten scope mode a b
-  title_cut t a b h k = record {
-    texts = t ∷ [];
-    are = (inl h, tt);
-    appends = record { front = k.front; rest = k.rest; appends = k.appends; whole = append-nil t ∙ k.whole };
+  pub all_titled : (first : Bool) (a b : Option (List ℕ)) → Titled first a b → AllWritten scope mode a b
+  all_titled first a b h = record {
+    texts = h.title ∷ [];
+    are = (inl (first, h.is), tt);
+    appends = subst (Appends a b) (sym (append-nil h.title)) h.appends;
   }
 
-  pub bound_untitled : (a b c : Option (List ℕ)) (e : ListError) (s : Status) → s ≡ status_of e → IsUntitled a b e → Keeps b c → IsBound scope mode a c s
-  bound_untitled a b c (Refused at why) s x u k = absurd u
-  bound_untitled a b c NoMemory s x u k = bound_none a c s (both_keep a b c u k)
-    where
-      both_keep : (a b c : Option (List ℕ)) → Keeps a b → Keeps b c → Keeps a c
-      both_keep a b c u k = Keeps-trans a b c u k
-  bound_untitled a b c (Target e) s x u k = bound_cut a c s x (cut_after a b c (u scope mode) k)
-    where
-      cut_after : (a b c : Option (List ℕ)) → CutWritten scope mode a b → Keeps b c → CutWritten scope mode a c
-      cut_after a b c h k = record {
-        texts = h.texts;
-        are = h.are;
-        appends = record {
-          front = h.appends.front;
-          rest = h.appends.rest;
-          appends = Appends-kept a b c h.appends.front h.appends.appends k;
-          whole = h.appends.whole;
-        };
-      }
+  title_cut : (first : Bool) (a b c : Option (List ℕ)) → TitleCutOff first a b → Keeps b c → CutWritten scope mode a c
+  title_cut first a b c h k = record {
+    texts = h.title ∷ [];
+    are = (inl (first, h.is), tt);
+    appends = record {
+      front = h.appends.front;
+      rest = h.appends.rest;
+      appends = Appends-kept a b c h.appends.front h.appends.appends k;
+      whole = append-nil h.title ∙ h.appends.whole;
+    };
+  }
 
--- an empty line is a title
-pub blank_title : IsTitle (codes "\n")
-blank_title = ([], refl, refl)
+  pub bound_untitled : (first : Bool) (a b c : Option (List ℕ)) (e : ListError) (s : Status) → s ≡ status_of e → IsUntitled first a b e → Keeps b c
+      → IsBound scope mode a c s
+  bound_untitled first a b c (Refused at why) s x u k = absurd u
+  bound_untitled first a b c NoMemory s x u k = bound_none a c s (Keeps-trans a b c u k)
+  bound_untitled first a b c (Target e) s x u k = bound_cut a c s x (title_cut first a b c u k)
 
 -- ---- steps of a loop
 
@@ -230,33 +225,120 @@ not_failed s t u (inr e) n m k = m (sym e ∙ k)
 
 -- ---- files
 
-pub whole_input : (request : Request) (octets : List ℕ) (a b : Option (List ℕ)) (s : Status) → s ≡ status.Written
-    → Ends request.scope request.mode octets a b s → IsInput request octets a b
-whole_input request octets a b s z (Ends.listed e l h) = IsInput.whole l h
-whole_input request octets a b s z (Ends.outside e l k) = let n = sym z ∙ e in cc
-whole_input request octets a b s z (Ends.refused e n h) = let n = sym z ∙ e in cc
-whole_input request octets a b s z (Ends.no_memory e h) = let n = sym z ∙ e in cc
-whole_input request octets a b s z (Ends.out_failed e h) = let n = sym z ∙ e in cc
-whole_input request octets a b s z (Ends.unflushed e h) = let n = sym z ∙ e in cc
+-- where all is written, all lines were
+pub whole_ends : (scope : Scope) (mode : Mode) (octets : List ℕ) (a b : Option (List ℕ)) (s : Status) → s ≡ status.Written
+    → Ends scope mode octets a b s → IsWhole scope mode octets a b
+whole_ends scope mode octets a b s z (Ends.listed e l h) = record { within = l; listed = h }
+whole_ends scope mode octets a b s z (Ends.outside e l k) = let n = sym z ∙ e in cc
+whole_ends scope mode octets a b s z (Ends.refused e n h) = let n = sym z ∙ e in cc
+whole_ends scope mode octets a b s z (Ends.no_memory e h) = let n = sym z ∙ e in cc
+whole_ends scope mode octets a b s z (Ends.out_failed e h) = let n = sym z ∙ e in cc
+whole_ends scope mode octets a b s z (Ends.unflushed e h) = let n = sym z ∙ e in cc
+
+pub never_written : (e : ListError) → status_of e ≡ status.Written → ⊥
+never_written (Refused at why) h = cc
+never_written NoMemory h = cc
+never_written (Target e) h = cc
 
 -- ---- titles
 
-apart : (scope : Scope) (mode : Mode) (is_first : Bool) (a b : Option (List ℕ)) → Appends a b (between is_first) → AllWritten scope mode a b
-apart scope mode true a b k = record { texts = []; are = tt; appends = k }
-apart scope mode false a b k = one_title scope mode (codes "\n") a b blank_title k
+pub title_written : (first : Bool) (w v : List ℕ) (a b c : Option (List ℕ)) → IsTitle first w → v ≡ w → Appends a b v → Keeps b c → Titled first a c
+title_written first w v a b c i e k f = record { title = w; is = i; appends = subst (Appends a c) e (Appends-kept a b c v k f) }
 
-pub apart_cut : (scope : Scope) (mode : Mode) (is_first : Bool) (a b : Option (List ℕ)) → AppendsFront a b (between is_first) → CutWritten scope mode a b
-apart_cut scope mode true a b k = record { texts = []; are = tt; appends = k }
-apart_cut scope mode false a b k = title_cut scope mode (codes "\n") a b blank_title k
+pub title_cut_off : (first : Bool) (w v : List ℕ) (a b : Option (List ℕ)) → IsTitle first w → v ≡ w → AppendsShorter a b v → TitleCutOff first a b
+title_cut_off first w v a b i e k = record {
+  title = w;
+  is = i;
+  appends = record { front = k.front; rest = k.rest; appends = k.appends; whole = sym e ∙ k.whole };
+}
 
-pub titled : (scope : Scope) (mode : Mode) (is_first : Bool) (t w : List ℕ) (a b c d : Option (List ℕ)) → Appends a b (between is_first) → IsTitle t → w ≡ t
-    → Appends b c w → Keeps c d → AllWritten scope mode a d
-titled scope mode is_first t w a b c d h i e k f =
-    all_join scope mode a b d (apart scope mode is_first a b h) (all_join scope mode b c d (one_title scope mode t b c i (subst (Appends b c) e k))
-    (all_none scope mode c d f))
+pub title_unflushed : (first : Bool) (w v : List ℕ) (a b c : Option (List ℕ)) → IsTitle first w → v ≡ w → Appends a b v → Keeps b c → TitleCutOff first a c
+title_unflushed first w v a b c i e k f = record {
+  title = w;
+  is = i;
+  appends = record { front = v; rest = []; appends = Appends-kept a b c v k f; whole = sym e ∙ sym (append-nil v) };
+}
 
-pub titled_cut : (scope : Scope) (mode : Mode) (is_first : Bool) (t w : List ℕ) (a b c : Option (List ℕ)) → Appends a b (between is_first) → IsTitle t → w ≡ t
-    → AppendsShorter b c w → CutWritten scope mode a c
-titled_cut scope mode is_first t w a b c h i e k =
-    cut_join scope mode a b c (some_all scope mode a b (apart scope mode is_first a b h)) (title_cut scope mode t b c i
-    (record { front = k.front; rest = k.rest; appends = k.appends; whole = sym e ∙ k.whole }))
+-- a line behind an empty one
+pub title_later : (line old new : List ℕ) → IsTitle true line → old ≡ [] → new ≡ old ++ (codes "\n" ++ line) → IsTitle false new
+title_later line old new i n e = (i.0, i.1, e ∙ ap (λ z. z ++ (codes "\n" ++ line)) n ∙ ap (λ z. codes "\n" ++ z) i.2)
+
+-- ---- blocks
+
+-- in a text that goes on behind a block
+pub blocks_more : (request : Request) (first : Bool) (octets : List ℕ) (block : Block) (a b c : Option (List ℕ)) → IsNext octets block
+    → BlockTitled request first block a b → BlocksListed request false block.rest.now b c → BlocksListed request first octets a c
+blocks_more request first octets block a b c n t m = BlocksListed.more block b n t m
+
+pub blocks_none : (request : Request) (first : Bool) (octets : List ℕ) (a : Option (List ℕ)) → HasNoBlock octets → BlocksListed request first octets a a
+blocks_none request first octets a n = BlocksListed.none n (Keeps-refl a)
+
+-- ---- the last flush
+
+pub files_kept : (request : Request) (only first : Bool) (inputs : List Input) (a b c : Option (List ℕ)) → FilesListed request only first inputs a b → Keeps b c
+    → FilesListed request only first inputs a c
+files_kept request only first [] a b c h k = Keeps-trans a b c h k
+files_kept request only first (i ∷ is) a b c (m, h, rest) k = (m, h, files_kept request only false is m b c rest k)
+
+pub bound_kept : (scope : Scope) (mode : Mode) (a b c : Option (List ℕ)) (s : Status) → IsBound scope mode a b s → Keeps b c → IsBound scope mode a c s
+bound_kept scope mode a b c s h k = record {
+  written = λ e. let w = h.written e in record { texts = w.texts; are = w.are; appends = Appends-kept a b c (joined w.texts) w.appends k };
+  some = λ n. let w = h.some n in record { texts = w.texts; are = w.are; appends = Appends-kept a b c (joined w.texts) w.appends k };
+  cut = record {
+    texts = h.cut.texts;
+    are = h.cut.are;
+    appends = record {
+      front = h.cut.appends.front;
+      rest = h.cut.appends.rest;
+      appends = Appends-kept a b c h.cut.appends.front h.cut.appends.appends k;
+      whole = h.cut.appends.whole;
+    };
+  };
+}
+
+pub bound_unflushed : (scope : Scope) (mode : Mode) (a b c : Option (List ℕ)) (s t : Status) → IsBound scope mode a b s → Keeps b c → t ≡ status.Failed
+    → IsBound scope mode a c t
+bound_unflushed scope mode a b c s t h k e = bound_cut scope mode a c t e (bound_kept scope mode a b c s h k).cut
+
+-- ---- steps that write a block or a file more
+
+pub next_block : (request : Request) (first : Bool) (all rest : List ℕ) (block : Block) (a b c : Option (List ℕ)) (s t u : Status)
+    → (u ≡ status.Written → (s ≡ status.Written) × (t ≡ status.Written))
+    → (s ≡ status.Written → (end : Option (List ℕ)) → BlocksListed request first rest b end → BlocksListed request true all a end)
+    → IsNext rest block → (t ≡ status.Written → BlockTitled request first block b c)
+    → u ≡ status.Written → (end : Option (List ℕ)) → BlocksListed request false block.rest.now c end → BlocksListed request true all a end
+next_block request first all rest block a b c s t u both so_far n titled z end m =
+    let p = both z in
+    so_far p.0 end (BlocksListed.more block c n (titled p.1) m)
+
+file_at : (xs : List Input) (i : ℕ) (x : Input) → i < length xs → x ≡ get_or xs i x → drop i xs ≡ x ∷ drop (i + 1) xs
+file_at xs i x k e = drop-cons xs i x k ∙ ap (λ z. z ∷ drop (suc i) xs) (sym e) ∙ ap (λ j. x ∷ drop j xs) (sym (add-one i))
+
+pub next_file : (request : Request) (only first f : Bool) (inputs : List Input) (i : ℕ) (x : Input) (a b c : Option (List ℕ)) (s t u : Status)
+    → (u ≡ status.Written → (s ≡ status.Written) × (t ≡ status.Written))
+    → (s ≡ status.Written → (end : Option (List ℕ)) → FilesListed request only first (drop i inputs) b end → FilesListed request only true inputs a end)
+    → i < length inputs → x ≡ get_or inputs i x → (t ≡ status.Written → IsFile request only first x b c) → (t ≡ status.Written → f ≡ false)
+    → u ≡ status.Written → (end : Option (List ℕ)) → FilesListed request only f (drop (i + 1) inputs) c end → FilesListed request only true inputs a end
+next_file request only first f inputs i x a b c s t u both so_far k e file stays z end m =
+    let p = both z in
+    let rest : FilesListed request only false (drop (i + 1) inputs) c end =
+    subst (λ q. FilesListed request only q (drop (i + 1) inputs) c end) (stays p.1) m in
+    let here : FilesListed request only first (x ∷ drop (i + 1) inputs) b end = (c, file p.1, rest) in
+    so_far p.0 end (subst (λ v. FilesListed request only first v b end) (sym (file_at inputs i x k e)) here)
+
+-- ---- the contents octets of a value
+
+pub value_written : (request : Request) (at : ℕ) (octets contents : List ℕ) (a b c : Option (List ℕ))
+    → HasContents (record request.scope { from = 0 }) request.mode octets at contents → Appends a b contents → Keeps b c → ValueWritten request at octets a c
+value_written request at octets contents a b c h k f = record { contents = contents; has = h; appends = Appends-kept a b c contents k f }
+
+pub not_written : (s : Status) → s ≡ status.Refused → s ≡ status.Written → ⊥
+not_written s e h = let z = sym e ∙ h in cc
+
+pub failed_not_written : (s : Status) → s ≡ status.Failed → s ≡ status.Written → ⊥
+failed_not_written s e h = let z = sym e ∙ h in cc
+
+pub first_written : (request : Request) (at : ℕ) (inputs : List Input) (x : Input) (a b : Option (List ℕ)) → 1 ≤ length inputs → x ≡ get_or inputs 0 x
+    → MatchResult x.octets (λ v. IsValueOf request at v.items a b) (λ e. ⊥) → FirstWritten request at inputs a b
+first_written request at [] x a b k e h = absurd (omega (arith, k))
+first_written request at (y ∷ ys) x a b k e h = subst (λ q. MatchResult q.octets (λ v. IsValueOf request at v.items a b) (λ e. ⊥)) e h

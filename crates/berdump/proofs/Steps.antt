@@ -6,9 +6,6 @@ use Rattle.std.specs.Borrow.{Bor}
 use Rattle.bcder.specs.declared.mode.Mode.{Mode}
 use Rattle.bcder.specs.x690.Identifier.{Tag}
 use Rattle.bcder.specs.x690.BitString.{bit_string_tag}
-use Rattle.bcder.specs.declared.length.Length.{Length}
-use Rattle.bcder.specs.declared.length.Length.TheVariants as lengths
-use Rattle.bcder.specs.calls.Fronts.{BeginsHeader, BeginsEnd}
 use Rattle.bcder.specs.x690.Encoding.{IsHeader}
 use Rattle.bcder.specs.calls.ContentsLen.{length_of}
 use Rattle.bcder.specs.laws.Complete.{header_size}
@@ -167,7 +164,7 @@ pub ends_with : (scope : Scope) (mode : Mode) (octets w : List ℕ) (a b : Optio
 ends_with scope mode octets w a b es at n e s = ends scope mode octets w a b at e (subst (λ z. IsAt scope mode octets a b z w at) n s)
 
 pub closes_with : (scope : Scope) (mode : Mode) (octets : List ℕ) (a b : Option (List ℕ)) (es fs : List Open) (w v : List ℕ) (at n : ℕ)
-    → IsAt scope mode octets a b es w at → ((d : Bool) (m : ℕ) → Goes d mode es w m fs v (m + n)) → (Fits mode es w → Fits mode fs v)
+    → IsAt scope mode octets a b es w at → ((d : Scope) (m : ℕ) → Goes d mode es w m fs v (m + n)) → (Fits mode es w → Fits mode fs v)
     → (p : List ℕ) × (length p ≡ n) × (w ++ behind_all es ≡ p ++ (v ++ behind_all fs)) → IsAt scope mode octets a b fs v (at + n)
 closes_with scope mode octets a b es fs w v at n s g m p = closes scope mode octets a b es fs w v p.0 at n s (g scope at) m p.1 p.2
 
@@ -181,20 +178,3 @@ less_closed es fs w v n f p =
 pub room_left : (scope : Scope) (mode : Mode) (octets w : List ℕ) (a b : Option (List ℕ)) (es : List Open) (at n : ℕ) → IsAt scope mode octets a b es w at
     → scope.from + length octets < n → at + length w < n
 room_left scope mode octets w a b es at n s k = let e = within scope mode octets w a b es at s in omega (arith, e, k)
-
--- ---- why no value begins
-
-told : Length → Option ℕ
-told (lengths.Definite n) = Some n
-told lengths.Indefinite = None
-
-told_is : (len : Length) → length_of (told len) ≡ len
-told_is (lengths.Definite n) = refl
-told_is lengths.Indefinite = refl
-
-pub stray_end : (mode : Mode) (w : List ℕ)
-    → ((t : Tag) (form : Bool) (n : Option ℕ) (h x : List ℕ) → IsHeader mode t form (length_of n) h → w ≡ h ++ x → ⊥)
-    → BeginsHeader mode w ⊎ BeginsEnd mode w → BeginsEnd mode w
-stray_end mode w none (inl (t, form, len, h, x, i, e)) =
-    absurd (none t form (told len) h x (subst (λ l. IsHeader mode t form l h) (sym (told_is len)) i) e)
-stray_end mode w none (inr k) = k

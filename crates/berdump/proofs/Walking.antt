@@ -40,7 +40,10 @@ shown_line : (scope : Scope) (h : Heading) (w : List ℕ) → is_shown scope h.d
 shown_line scope h w e l = one_line scope h w (subst (λ b. MatchBool b (IsLine h w) (w ≡ [])) (sym e) l)
 
 hidden_line : (scope : Scope) (h : Heading) → is_shown scope h.depth ≡ false → AreLines scope (h ∷ []) []
-hidden_line scope h e = one_line scope h [] (subst (λ b. MatchBool b (IsLine h []) ([] ≡ [])) (sym e) refl)
+hidden_line scope h e =
+    let w : List ℕ = [] in
+    let same : w ≡ w = refl in
+    one_line scope h w (subst (λ b. MatchBool b (IsLine h w) (w ≡ w)) (sym e) same)
 
 pub unwritten : (scope : Scope) (h : Heading) (a : Option (List ℕ)) → is_shown scope h.depth ≡ false → Written scope (h ∷ []) a a
 unwritten scope h a e = record { text = []; lines = hidden_line scope h e; appends = Appends-nil a }

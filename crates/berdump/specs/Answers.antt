@@ -1,5 +1,5 @@
 -- What listing answers, and what the target then holds.
-use Rattle.std.specs.Prelude.{◌≡◌, ◌⊎◌, ℕ, ◌+◌, Bool, List, [], ◌∷◌, ◌++◌, Option, Some, None, length}
+use Rattle.std.specs.Prelude.{◌≡◌, ◌⊎◌, ℕ, ◌+◌, ◌≤◌, Bool, List, [], ◌∷◌, ◌++◌, Option, Some, None, length, take}
 use Rattle.std.specs.Io.KnownBytes.{Appends, Keeps}
 use Rattle.bcder.specs.declared.mode.Mode.{Mode}
 use Rattle.bcder.specs.x690.Identifier.{Tag}
@@ -66,6 +66,14 @@ abbrev pub IsUnwritten : Scope → Heading → Option (List ℕ) → Option (Lis
 IsUnwritten scope h old new (Refused at why) = ⊥
 IsUnwritten scope h old new NoMemory = Keeps old new
 IsUnwritten scope h old new (Target e) = (text : List ℕ) × AreLines scope (h ∷ []) text × AppendsShorter old new text
+
+-- octets begin with a header that gives a length, and with so many contents octets; and with one that gives none
+abbrev pub IsDefiniteAt : Mode → List ℕ → List ℕ → Type 0
+IsDefiniteAt mode w contents = (t : Tag) × (form : Bool) × (n : ℕ) × (h r : List ℕ) × IsHeader mode t form (length_of (Some n)) h × (w ≡ h ++ r)
+    × (n ≤ length r) × (contents ≡ take n r)
+
+abbrev pub IsIndefiniteAt : Mode → List ℕ → List ℕ → Type 0
+IsIndefiniteAt mode w behind = (t : Tag) × (form : Bool) × (h : List ℕ) × IsHeader mode t form (length_of None) h × (w ≡ h ++ behind)
 
 -- a header stands at the offset, and contents octets behind it: as many as it says, or some of those before an end
 pub record HasContents (scope : Scope) (mode : Mode) (octets : List ℕ) (at : ℕ) (contents : List ℕ) : Type 0 where

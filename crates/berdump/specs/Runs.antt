@@ -6,7 +6,9 @@ use Rattle.bcder.specs.calls.Target.{AppendsFront}
 use Rattle.cli.specs.declared.files.Input.{Input}
 use Rattle.cli.specs.declared.form.Form.{Form}
 use Rattle.cli.specs.declared.form.Form.TheVariants as form
-use Rattle.cli.specs.Pem.{MayBegin}
+use Rattle.cli.specs.Pem.{Lacks, IsNext, HasNoBlock}
+use Rattle.cli.specs.Spelling.{SpellsBase64}
+use Rattle.cli.specs.declared.pem.Block.{Block}
 use Rattle.cli.specs.Shown.{IsShown}
 use Rattle.berdump.specs.declared.heading.Heading.{Heading}
 use Rattle.berdump.specs.declared.list.ListError.{ListError}
@@ -17,8 +19,8 @@ use Rattle.berdump.specs.declared.status.Status.{Status}
 use Rattle.berdump.specs.declared.status.Status.TheVariants as status
 use Rattle.berdump.specs.Lines.{AreLines}
 use Rattle.berdump.specs.Listing.{AreListed, IsNoList}
-use Rattle.berdump.specs.Answers.{AllStand, Listed, ListedInPart, CutOff}
-use Rattle.berdump.specs.Spellings.{MaySpell}
+use Rattle.berdump.specs.Answers.{AllStand, Listed, ListedInPart, CutOff, HasContents}
+use Rattle.berdump.specs.Spellings.{Spells, SpellsNothing}
 
 -- the status of an error
 abbrev pub status_of : ListError → Status
@@ -36,11 +38,43 @@ pub data Ends (scope : Scope) (mode : Mode) (octets : List ℕ) (old new : Optio
   out_failed : s ≡ status.Failed → CutOff scope mode (drop scope.from octets) old new → Ends scope mode octets old new s
   unflushed : s ≡ status.Failed → Listed scope mode (drop scope.from octets) old new → Ends scope mode octets old new s
 
+-- the lines of octets were written, all from the scope's offset on
+pub record IsWhole (scope : Scope) (mode : Mode) (octets : List ℕ) (old new : Option (List ℕ)) : Type 0 where
+  pub within : scope.from ≤ length octets
+  pub listed : Listed scope mode (drop scope.from octets) old new
+
+-- ---- titles
+
+-- what stands in front of a title: an empty line, if it isn't the first
+abbrev pub between : Bool → List ℕ
+between true = []
+between false = codes "\n"
+
+-- a line without control characters, which names what follows, and what stands in front of it
+abbrev pub IsTitle : Bool → List ℕ → Type 0
+IsTitle first w = (name : List ℕ) × IsShown name × (w ≡ between first ++ (name ++ codes "\n"))
+
+-- it was written, and a prefix of it
+pub record Titled (first : Bool) (old new : Option (List ℕ)) : Type 0 where
+  pub title : List ℕ
+  pub is : IsTitle first title
+  pub appends : Appends old new title
+
+pub record TitleCutOff (first : Bool) (old new : Option (List ℕ)) : Type 0 where
+  pub title : List ℕ
+  pub is : IsTitle first title
+  pub appends : AppendsFront old new title
+
+-- what an error says of a title
+abbrev pub IsUntitled : Bool → Option (List ℕ) → Option (List ℕ) → ListError → Type 0
+IsUntitled first old new (Refused at why) = ⊥
+IsUntitled first old new NoMemory = Keeps old new
+IsUntitled first old new (Target e) = TitleCutOff first old new
+
 -- ---- several texts, one after the other
 
--- a line without control characters, which names what follows, or is empty
-abbrev pub IsTitle : List ℕ → Type 0
-IsTitle w = (name : List ℕ) × IsShown name × (w ≡ name ++ codes "\n")
+abbrev pub AnyTitle : List ℕ → Type 0
+AnyTitle w = (first : Bool) × IsTitle first w
 
 -- a text is the lines of the values that some octets encode
 pub record IsText (scope : Scope) (mode : Mode) (text : List ℕ) : Type 0 where
@@ -59,20 +93,15 @@ pub record IsTextInPart (scope : Scope) (mode : Mode) (text : List ℕ) : Type 0
 -- each is a title or a text
 abbrev pub AreWhole : Scope → Mode → List (List ℕ) → Type 0
 AreWhole scope mode [] = Unit {0}
-AreWhole scope mode (t ∷ ts) = (IsTitle t ⊎ IsText scope mode t) × AreWhole scope mode ts
+AreWhole scope mode (t ∷ ts) = (AnyTitle t ⊎ IsText scope mode t) × AreWhole scope mode ts
 
 abbrev pub AreParts : Scope → Mode → List (List ℕ) → Type 0
 AreParts scope mode [] = Unit {0}
-AreParts scope mode (t ∷ ts) = (IsTitle t ⊎ IsTextInPart scope mode t) × AreParts scope mode ts
+AreParts scope mode (t ∷ ts) = (AnyTitle t ⊎ IsTextInPart scope mode t) × AreParts scope mode ts
 
 abbrev pub joined : List (List ℕ) → List ℕ
 joined [] = []
 joined (t ∷ ts) = t ++ joined ts
-
--- what stands in front of a title: an empty line, if it isn't the first
-abbrev pub between : Bool → List ℕ
-between true = []
-between false = codes "\n"
 
 -- titles and texts were written
 pub record AllWritten (scope : Scope) (mode : Mode) (old new : Option (List ℕ)) : Type 0 where
@@ -98,32 +127,81 @@ pub record IsBound (scope : Scope) (mode : Mode) (old new : Option (List ℕ)) (
   pub some : s ≢ status.Failed → SomeWritten scope mode old new
   pub cut : CutWritten scope mode old new
 
--- what an error says of a title
-abbrev pub IsUntitled : Option (List ℕ) → Option (List ℕ) → ListError → Type 0
-IsUntitled old new (Refused at why) = ⊥
-IsUntitled old new NoMemory = Keeps old new
-IsUntitled old new (Target e) = (scope : Scope) (mode : Mode) → CutWritten scope mode old new
+-- ---- blocks of text
+
+-- the octets of a block: its body has no headers, and spells them in base 64
+abbrev pub HasOctets : Block → List ℕ → Type 0
+HasOctets block v = MatchResult block.body (λ body. Lacks (codes ":") body.now × SpellsBase64 body.now v) (λ e. ⊥)
+
+-- a block was listed whole, and behind its title
+abbrev pub BlockListed : Request → Block → Option (List ℕ) → Option (List ℕ) → Type 0
+BlockListed request block old new = (v : List ℕ) × HasOctets block v × IsWhole request.scope request.mode v old new
+
+pub record BlockTitled (request : Request) (first : Bool) (block : Block) (old new : Option (List ℕ)) : Type 0 where
+  pub mid : Option (List ℕ)
+  pub titled : Titled first old mid
+  pub listed : BlockListed request block mid new
+
+-- each block that begins in the octets was, one after the other
+pub data BlocksListed (request : Request) : Bool → List ℕ → Option (List ℕ) → Option (List ℕ) → Type 0 where
+  none : {first : Bool} {octets : List ℕ} {old new : Option (List ℕ)} → HasNoBlock octets → Keeps old new → BlocksListed request first octets old new
+  more : {first : Bool} {octets : List ℕ} {old new : Option (List ℕ)} (block : Block) (mid : Option (List ℕ)) → IsNext octets block
+      → BlockTitled request first block old mid → BlocksListed request false block.rest.now mid new → BlocksListed request first octets old new
 
 -- ---- files
 
--- octets of this form may be blocks of text
-abbrev pub MayHaveBlocks : Option Form → List ℕ → Type 0
-MayHaveBlocks (Some f) octets = f ≡ form.Pem
-MayHaveBlocks None octets = MayBegin octets
+-- octets of this form are blocks of text: where it isn't told, those in which a block begins
+abbrev pub HasBlocks : Option Form → List ℕ → Type 0
+HasBlocks (Some f) octets = f ≡ form.Pem
+HasBlocks None octets = (block : Block) × IsNext octets block
 
--- the lines of octets, as they are in this form
+abbrev pub HasNoBlocks : Option Form → List ℕ → Type 0
+HasNoBlocks (Some f) octets = f ≢ form.Pem
+HasNoBlocks None octets = HasNoBlock octets
+
+-- octets of this form say that these are to be listed: they spell them, or are these
+abbrev pub IsRead : Request → List ℕ → List ℕ → Type 0
+IsRead request octets v = Spells request.mode request.form octets v ⊎ SpellsNothing request.mode request.form octets × (v ≡ octets)
+
+-- all lines of octets were written, by what they are in this form
 pub data IsInput (request : Request) (octets : List ℕ) (old new : Option (List ℕ)) : Type 0 where
-  blocks : MayHaveBlocks request.form octets → AllWritten request.scope request.mode old new → IsInput request octets old new
-  spelled : MaySpell request.mode request.form octets → AllWritten request.scope request.mode old new → IsInput request octets old new
-  whole : request.scope.from ≤ length octets → Listed request.scope request.mode (drop request.scope.from octets) old new
+  blocks : HasBlocks request.form octets → (block : Block) → IsNext octets block → BlocksListed request true octets old new
+      → IsInput request octets old new
+  one : HasNoBlocks request.form octets → (v : List ℕ) → IsRead request octets v → IsWhole request.scope request.mode v old new
       → IsInput request octets old new
 
--- a file was read, and listed behind a title or none
-abbrev pub IsFile : Request → Input → Option (List ℕ) → Option (List ℕ) → Type 0
-IsFile request input old new = MatchResult input.octets
-    (λ v. (mid : Option (List ℕ)) × AllWritten request.scope request.mode old mid × IsInput request v.items mid new) (λ e. ⊥)
+-- a file was read, and listed behind a title, or without one if it is the only file
+abbrev pub IsOpening : Bool → Bool → Option (List ℕ) → Option (List ℕ) → Type 0
+IsOpening true first old new = Keeps old new
+IsOpening false first old new = Titled first old new
+
+abbrev pub IsFile : Request → Bool → Bool → Input → Option (List ℕ) → Option (List ℕ) → Type 0
+IsFile request only first input old new = MatchResult input.octets
+    (λ v. (mid : Option (List ℕ)) × IsOpening only first old mid × IsInput request v.items mid new) (λ e. ⊥)
 
 -- all files were, one after the other
-abbrev pub FilesListed : Request → List Input → Option (List ℕ) → Option (List ℕ) → Type 0
-FilesListed request [] old new = Keeps old new
-FilesListed request (i ∷ is) old new = (mid : Option (List ℕ)) × IsFile request i old mid × FilesListed request is mid new
+abbrev pub FilesListed : Request → Bool → Bool → List Input → Option (List ℕ) → Option (List ℕ) → Type 0
+FilesListed request only first [] old new = Keeps old new
+FilesListed request only first (i ∷ is) old new =
+    (mid : Option (List ℕ)) × IsFile request only first i old mid × FilesListed request only false is mid new
+
+-- ---- the contents octets of one value
+
+-- octets are those of the first block of a file's, or what these are read as
+pub data IsFirst (request : Request) (octets v : List ℕ) : Type 0 where
+  block : HasBlocks request.form octets → (block : Block) → IsNext octets block → HasOctets block v → IsFirst request octets v
+  one : HasNoBlocks request.form octets → IsRead request octets v → IsFirst request octets v
+
+-- the contents octets of the value at an offset of octets were written
+pub record ValueWritten (request : Request) (at : ℕ) (octets : List ℕ) (old new : Option (List ℕ)) : Type 0 where
+  pub contents : List ℕ
+  pub has : HasContents (record request.scope { from = 0 }) request.mode octets at contents
+  pub appends : Appends old new contents
+
+abbrev pub IsValueOf : Request → ℕ → List ℕ → Option (List ℕ) → Option (List ℕ) → Type 0
+IsValueOf request at octets old new = (v : List ℕ) × IsFirst request octets v × ValueWritten request at v old new
+
+-- of the first file
+abbrev pub FirstWritten : Request → ℕ → List Input → Option (List ℕ) → Option (List ℕ) → Type 0
+FirstWritten request at [] old new = Keeps old new
+FirstWritten request at (i ∷ is) old new = MatchResult i.octets (λ v. IsValueOf request at v.items old new) (λ e. ⊥)

@@ -1,16 +1,15 @@
 //! Lists the values of an encoding.
-ghost use Rattle.std.specs.Prelude.{◌≡◌, ◌≢◌, ◌⊎◌, ℕ, ◌+◌, ◌<◌, ◌^◌, Bool, Option};
-ghost use Rattle.std.specs.Prelude.{List, [], ◌∷◌, ◌++◌, length};
+ghost use Rattle.std.specs.Prelude.{◌≡◌, ◌≢◌, ◌⊎◌, ℕ, ◌+◌, ◌<◌, ◌^◌};
+ghost use Rattle.std.specs.Prelude.{List, [], ◌∷◌, ◌++◌, length, take, Some};
+ghost use Rattle.std.specs.Borrow.{Bor};
 ghost use Rattle.std.specs.Prelude.{IfOk, OnOk, IfErr, IfSome, string_bytes};
-ghost use Rattle.bcder.specs.calls.ContentsLen.{length_of};
-ghost use Rattle.bcder.specs.x690.Encoding.{IsHeader};
-ghost use Rattle.bcder.specs.x690.Identifier.{Tag};
 ghost use Rattle.cli.specs.Shown.{IsShown};
 ghost use Rattle.berdump.specs.Answers.{HasContents, IsUnlisted, IsUnwritten, Listed, Written};
 ghost use Rattle.berdump.specs.declared.list.Reason.TheVariants.{Contents, TooLong};
 ghost use Rattle.berdump.specs.Lines.{IsLine};
 ghost use Rattle.berdump.specs.Opened.{GoesOn};
-ghost use Rattle.berdump.specs.Reasons.{IsReason};
+ghost use Rattle.berdump.specs.Reasons.{IsReason, BeginsNoHeader};
+ghost use Rattle.berdump.specs.Answers.{IsDefiniteAt, IsIndefiniteAt};
 ghost use Rattle.berdump.specs.Walk.{PassesContents, Meets, Stops, left};
 
 use crate::heading::Heading;
@@ -241,8 +240,7 @@ fn list_primitive<'a, W: io::Write>(
 
 /// Returns why octets begin with no header, where they don't end a value.
 fn reason_at(mode: Mode, rest: &[u8]) -> Reason
-    requires { (t : Tag) (form : Bool) (n : Option ℕ) (w x : List ℕ)
-        → IsHeader mode t form (length_of n) w → rest.now ≡ w ++ x → ⊥ }
+    requires { BeginsNoHeader mode rest.now }
     ensures { IsReason mode rest.now result }
 {
     if rest.is_empty() {
@@ -379,6 +377,90 @@ pub fn list<W: io::Write>(
     }
 }
 
+/// Returns the contents octets of the value of definite length that octets begin with, if they are
+/// at the wanted offset and all there.
+fn definite_here(mode: Mode, octets: &[u8], at: usize, wanted: usize) -> Option<&[u8]>
+    ensures here { IfSome result (λ _. at ≡ wanted) }
+    ensures contents { IfSome result (λ contents. IsDefiniteAt mode octets.now contents.now) }
+{
+    if at != wanted {
+        return None;
+    }
+    let Some(front) = front_at(mode, octets) else {
+        return None;
+    };
+    let Some(len) = front.len else {
+        return None;
+    };
+    if front.rest.len() < len {
+        return None;
+    }
+    Some(front.rest.split_at(len).0)
+}
+
+/// Returns what follows the header of the value of indefinite length that octets begin with, if
+/// they are at the wanted offset.
+fn indefinite_here(mode: Mode, octets: &[u8], at: usize, wanted: usize) -> Option<&[u8]>
+    ensures here { IfSome result (λ _. at ≡ wanted) }
+    ensures behind { IfSome result (λ behind. IsIndefiniteAt mode octets.now behind.now) }
+{
+    if at != wanted {
+        return None;
+    }
+    let Some(front) = front_at(mode, octets) else {
+        return None;
+    };
+    if front.len.is_some() {
+        return None;
+    }
+    Some(front.rest)
+}
+
+/// A value that was sought, and is open: the number of values around it, and what follows its
+/// header.
+#[derive(Clone, Copy)]
+struct Begun<'a> {
+    depth: usize,
+    behind: Option<&'a [u8]>,
+}
+
+/// Returns the value that is sought, if it begins here, or the one that has begun.
+fn begun_at<'a>(
+    begun: Begun<'a>,
+    mode: Mode,
+    octets: &'a [u8],
+    at: usize,
+    wanted: usize,
+    depth: usize,
+) -> Begun<'a>
+    ensures { IfSome result.behind (λ r. (begun.entry.behind ≡ Some r)
+        ⊎ (at ≡ wanted) × IsIndefiniteAt mode octets.now r.now) }
+{
+    match indefinite_here(mode, octets, at, wanted) {
+        Some(behind) => Begun {
+            depth,
+            behind: Some(behind),
+        },
+        None => begun,
+    }
+}
+
+/// Returns the contents octets of the value that has begun, if it ends where these octets begin,
+/// in this number of values.
+fn ended_at<'a>(begun: Begun<'a>, depth: usize, rest: &[u8]) -> Option<&'a [u8]>
+    ensures { IfSome result (λ c. (r : Bor (List ℕ)) × (n : ℕ)
+        × (begun.entry.behind ≡ Some r) × (c.now ≡ take n r.now)) }
+{
+    let Some(behind) = begun.behind else {
+        return None;
+    };
+    if begun.depth != depth {
+        return None;
+    }
+    let len = behind.len().saturating_sub(rest.len());
+    Some(behind.split_at(len).0)
+}
+
 /// Returns the contents octets of the value whose header is at an offset, or `None` if no value of
 /// the scope is there. The lines of the values up to there are written too.
 ///
@@ -400,15 +482,14 @@ pub fn find<'a, W: io::Write>(
     let mut opened = VecDeque::new(alloc);
     let mut rest = octets;
     let mut at = scope.from;
-    // What follows the header of the value, and how many values it is in, if it is open.
-    let mut begun: Option<(usize, &[u8])> = None;
+    let mut begun = Begun {
+        depth: 0,
+        behind: None,
+    };
     loop {
         if let Some((count, behind)) = close(mode, &mut opened, rest) {
-            if let Some((depth, contents)) = begun {
-                if depth == opened.len() {
-                    let len = contents.len().saturating_sub(rest.len());
-                    return Ok(Some(contents.split_at(len).0));
-                }
+            if let Some(contents) = ended_at(begun, opened.len(), rest) {
+                return Ok(Some(contents));
             }
             at += count;
             rest = behind;
@@ -417,18 +498,10 @@ pub fn find<'a, W: io::Write>(
         if rest.is_empty() && opened.is_empty() {
             return Ok(None);
         }
-        if at == wanted {
-            if let Some(front) = front_at(mode, rest) {
-                match front.len {
-                    None => begun = Some((opened.len(), front.rest)),
-                    Some(len) => {
-                        if len <= front.rest.len() {
-                            return Ok(Some(front.rest.split_at(len).0));
-                        }
-                    }
-                }
-            }
+        if let Some(contents) = definite_here(mode, rest, at, wanted) {
+            return Ok(Some(contents));
         }
+        begun = begun_at(begun, mode, rest, at, wanted, opened.len());
         match list_value(alloc, mode, scope, rest, at, &mut opened, lines) {
             Ok(place) => {
                 rest = place.rest;

@@ -105,7 +105,11 @@ pub(crate) fn read<'a>(alloc: Global, words: &'a [String]) -> Result<Asked<'a>, 
         form: None,
         value: None,
     };
-    while let Some(argument) = args.next() {
+    // Each turn takes a word.
+    for _ in 0..u64::MAX {
+        let Some(argument) = args.next() else {
+            break;
+        };
         let option = match argument {
             Argument::File(file) => {
                 if files.push(file).is_err() {

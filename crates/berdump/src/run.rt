@@ -1,8 +1,13 @@
 //! Lists files: their octets, or the blocks of a text (RFC 7468).
-ghost use Rattle.std.specs.Prelude.{◌≡◌, ◌≢◌, IsTrue, OnOk, IfErr};
+ghost use Rattle.std.specs.Prelude.{◌≡◌, ◌≢◌, ◌==◌, true, false, [], length, IfOk, OnOk, IfErr};
 ghost use Rattle.std.specs.Io.KnownBytes.{Keeps};
+ghost use Rattle.std.specs.Io.Buffered.{writer_contents, writer_buffer};
+ghost use Rattle.cli.specs.declared.pem.Block.{Block as TheBlock};
+ghost use Rattle.cli.specs.Pem.{IsNext};
 ghost use Rattle.berdump.specs.declared.status.Status.TheVariants.{Written};
-ghost use Rattle.berdump.specs.Runs.{Ends, IsBound, IsInput, IsFile, FilesListed, MayHaveBlocks};
+ghost use Rattle.berdump.specs.Runs.{Ends, IsBound, IsInput, IsFile, FilesListed};
+ghost use Rattle.berdump.specs.Runs.{HasOctets, BlockListed, BlockTitled, BlocksListed};
+ghost use Rattle.berdump.specs.Runs.{HasBlocks, HasNoBlocks};
 
 use crate::list::{ListError, list};
 use crate::request::Request;
@@ -17,6 +22,7 @@ use cli::form::{Form, Misspelled, from_base64};
 use cli::pem::{Block, header_in, next_block};
 use std::alloc::Global;
 use std::io;
+use std::io::{BufWriter, Write};
 
 /// Lists octets on `out`. If not all are listed, `err` says why.
 fn run_octets<W: io::Write, E: io::Write>(
@@ -56,8 +62,9 @@ pub(crate) fn octets_in<E: io::Write>(
     block: Block<'_>,
     err: &mut E,
 ) -> Result<Vec<u8>, Status>
-    ensures ok { OnOk result (Keeps (E.contents err.old) (E.contents err.new)) }
-    ensures err { IfErr result (λ status. status ≢ Written) }
+    ensures octets { IfOk result (λ v. HasOctets block.entry v.items) }
+    ensures silent { OnOk result (Keeps (E.contents err.old) (E.contents err.new)) }
+    ensures told { IfErr result (λ status. status ≢ Written) }
 {
     let body = match block.body {
         Ok(body) => body,
@@ -89,6 +96,8 @@ fn run_body<W: io::Write, E: io::Write>(
     out: &mut W,
     err: &mut E,
 ) -> Status
+    ensures listed { result ≡ Written
+        → BlockListed request block.entry (W.contents out.old) (W.contents out.new) }
     ensures bound { IsBound request.scope request.mode
         (W.contents out.old) (W.contents out.new) result }
     ensures silent { result ≡ Written → Keeps (E.contents err.old) (E.contents err.new) }
@@ -109,6 +118,8 @@ fn run_block<W: io::Write, E: io::Write>(
     out: &mut W,
     err: &mut E,
 ) -> Status
+    ensures listed { result ≡ Written
+        → BlockTitled request is_first block.entry (W.contents out.old) (W.contents out.new) }
     ensures bound { IsBound request.scope request.mode
         (W.contents out.old) (W.contents out.new) result }
     ensures silent { result ≡ Written → Keeps (E.contents err.old) (E.contents err.new) }
@@ -128,10 +139,17 @@ fn run_blocks<W: io::Write, E: io::Write>(
     out: &mut W,
     err: &mut E,
 ) -> Status
+    ensures some { result ≡ Written → (block : TheBlock) × IsNext octets.now block }
+    ensures listed { result ≡ Written
+        → BlocksListed request true octets.now (W.contents out.old) (W.contents out.new) }
     ensures bound { IsBound request.scope request.mode
         (W.contents out.old) (W.contents out.new) result }
     ensures silent { result ≡ Written → Keeps (E.contents err.old) (E.contents err.new) }
 {
+    let Some(_) = next_block(octets) else {
+        tell(err, Place { file, block: None }, "there is no block");
+        return Status::Refused;
+    };
     let mut rest = octets;
     let mut number = 0usize;
     let mut is_first = true;
@@ -150,16 +168,13 @@ fn run_blocks<W: io::Write, E: io::Write>(
         status = status.and(found);
         is_first = false;
     }
-    if number == 0 {
-        tell(err, Place { file, block: None }, "there is no block");
-        return Status::Refused;
-    }
     status
 }
 
 /// Returns whether octets are to be read as blocks.
 pub(crate) fn has_blocks(form: Option<Form>, octets: &[u8]) -> bool
-    ensures { IsTrue result → MayHaveBlocks form octets.now }
+    ensures yes { result ≡ true → HasBlocks form octets.now }
+    ensures no { result ≡ false → HasNoBlocks form octets.now }
 {
     match form {
         Some(form) => form == Form::Pem,
@@ -208,7 +223,7 @@ fn run_input<W: io::Write, E: io::Write>(
     err: &mut E,
 ) -> Status
     ensures file { result ≡ Written
-        → IsFile request input.now (W.contents out.old) (W.contents out.new) }
+        → IsFile request is_only is_first input.now (W.contents out.old) (W.contents out.new) }
     ensures bound { IsBound request.scope request.mode
         (W.contents out.old) (W.contents out.new) result }
     ensures silent { result ≡ Written → Keeps (E.contents err.old) (E.contents err.new) }
@@ -240,9 +255,19 @@ fn run_input<W: io::Write, E: io::Write>(
     }
 }
 
+/// Returns whether nothing is listed yet, behind a file.
+fn stays_first(is_first: bool, found: Status) -> bool
+    ensures { found ≡ Written → result ≡ false }
+{
+    match found {
+        Status::Unread => is_first,
+        _ => false,
+    }
+}
+
 /// Lists files on `out`, one after the other, and returns how that ends. If not all is listed,
 /// `err` says why.
-pub fn run<W: io::Write, E: io::Write>(
+fn run_inputs<W: io::Write, E: io::Write>(
     alloc: Global,
     request: Request,
     inputs: &[Input<'_>],
@@ -250,22 +275,47 @@ pub fn run<W: io::Write, E: io::Write>(
     err: &mut E,
 ) -> Status
     ensures files { result ≡ Written
-        → FilesListed request inputs.now (W.contents out.old) (W.contents out.new) }
+        → FilesListed request (length inputs.now == 1) true inputs.now
+        (W.contents out.old) (W.contents out.new) }
     ensures bound { IsBound request.scope request.mode
         (W.contents out.old) (W.contents out.new) result }
     ensures silent { result ≡ Written → Keeps (E.contents err.old) (E.contents err.new) }
 {
     let mut status = Status::Written;
     let mut is_first = true;
-    let mut rest = inputs;
-    while let [input, behind @ ..] = rest {
-        rest = behind;
+    for input in inputs {
         let found = run_input(alloc, request, inputs.len() == 1, is_first, input, out, err);
         if found == Status::Failed {
             return Status::Failed;
         }
         status = status.and(found);
-        is_first = is_first && found == Status::Unread;
+        is_first = stays_first(is_first, found);
     }
     status
+}
+
+/// Lists files on `out`, one after the other, and returns how that ends. If not all is listed,
+/// `err` says why. If all is, nothing is left in the buffer.
+pub fn run<W: io::Write + Drop, E: io::Write>(
+    alloc: Global,
+    request: Request,
+    inputs: &[Input<'_>],
+    out: &mut BufWriter<W>,
+    err: &mut E,
+) -> Status
+    ensures files { result ≡ Written
+        → FilesListed request (length inputs.now == 1) true inputs.now
+        (writer_contents W.contents out.old) (writer_contents W.contents out.new) }
+    ensures flushed { result ≡ Written → writer_buffer out.new ≡ [] }
+    ensures bound { IsBound request.scope request.mode
+        (writer_contents W.contents out.old) (writer_contents W.contents out.new) result }
+    ensures silent { result ≡ Written → Keeps (E.contents err.old) (E.contents err.new) }
+{
+    match run_inputs(alloc, request, inputs, out, err) {
+        Status::Written => match out.flush() {
+            Ok(()) => Status::Written,
+            Err(_) => tell_unwritten(err),
+        },
+        status => status,
+    }
 }

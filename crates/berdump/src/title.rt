@@ -1,10 +1,6 @@
 //! The lines that name what is listed.
-ghost use Rattle.std.specs.Prelude.{IfOk, OnOk, OnErr, IfErr, string_bytes};
-ghost use Rattle.std.specs.Io.KnownBytes.{Appends};
-ghost use Rattle.bcder.specs.declared.mode.Mode.{Mode as TheMode};
-ghost use Rattle.bcder.specs.calls.Target.{AppendsFront};
-ghost use Rattle.berdump.specs.declared.scope.Scope.{Scope as TheScope};
-ghost use Rattle.berdump.specs.Runs.{IsTitle, AllWritten, IsUntitled, between};
+ghost use Rattle.std.specs.Prelude.{IfOk, OnOk, IfErr, string_bytes, true};
+ghost use Rattle.berdump.specs.Runs.{IsTitle, Titled, IsUntitled};
 
 use crate::list::ListError;
 use bcder::NoMemory;
@@ -15,30 +11,30 @@ use std::io;
 
 /// Returns the line that names what follows. It has no control character; the check for them proves
 /// that it is one line.
-fn title_of(alloc: Global, name: &[u8]) -> Result<String, NoMemory>
-    ensures { IfOk result (λ title. IsTitle (string_bytes title)) }
+fn line_of(alloc: Global, name: &[u8]) -> Result<String, NoMemory>
+    ensures { IfOk result (λ line. IsTitle true (string_bytes line)) }
 {
     let mut shown = String::new(alloc);
     write!(shown, "{}:", ShownOctets(name))?;
-    let mut title = String::new(alloc);
+    let mut line = String::new(alloc);
     if is_shown(shown.as_str()) {
-        title.push_str(shown.as_str())?;
+        line.push_str(shown.as_str())?;
     }
-    title.push_str("\n")?;
-    Ok(title)
+    line.push_str("\n")?;
+    Ok(line)
 }
 
-/// Writes an empty line, unless what follows is the first.
-fn set_apart<W: io::Write>(is_first: bool, out: &mut W) -> Result<(), io::Error>
-    ensures ok { OnOk result
-        (Appends (W.contents out.old) (W.contents out.new) (between is_first)) }
-    ensures err { OnErr result
-        (AppendsFront (W.contents out.old) (W.contents out.new) (between is_first)) }
+/// Returns the line that names what follows, behind an empty line unless it is the first.
+fn title_of(alloc: Global, is_first: bool, name: &[u8]) -> Result<String, NoMemory>
+    ensures { IfOk result (λ title. IsTitle is_first (string_bytes title)) }
 {
+    let line = line_of(alloc, name)?;
     if is_first {
-        return Ok(());
+        return Ok(line);
     }
-    write_octets(out, b"\n")
+    let mut title = String::new(alloc);
+    write!(title, "\n{}", line.as_str())?;
+    Ok(title)
 }
 
 /// Writes the line that names what follows, behind an empty line if it isn't the first. It is there
@@ -49,17 +45,15 @@ pub(crate) fn write_title<W: io::Write>(
     name: &[u8],
     out: &mut W,
 ) -> Result<(), ListError>
-    ensures ok { OnOk result ((scope : TheScope) (mode : TheMode)
-        → AllWritten scope mode (W.contents out.old) (W.contents out.new)) }
-    ensures err { IfErr result (IsUntitled (W.contents out.old) (W.contents out.new)) }
+    ensures titled { OnOk result
+        (Titled is_first (W.contents out.old) (W.contents out.new)) }
+    ensures untitled { IfErr result
+        (IsUntitled is_first (W.contents out.old) (W.contents out.new)) }
 {
-    let title = match title_of(alloc, name) {
+    let title = match title_of(alloc, is_first, name) {
         Ok(title) => title,
         Err(NoMemory) => return Err(ListError::NoMemory),
     };
-    if let Err(error) = set_apart(is_first, out) {
-        return Err(ListError::Target(error));
-    }
     if let Err(error) = write_octets(out, title.as_bytes()) {
         return Err(ListError::Target(error));
     }

@@ -1,4 +1,11 @@
 //! Writes the contents octets of one value.
+ghost use Rattle.std.specs.Prelude.{◌≡◌, ℕ, List};
+ghost use Rattle.std.specs.Io.KnownBytes.{Keeps};
+ghost use Rattle.cli.specs.declared.pem.Block.{Block as TheBlock};
+ghost use Rattle.cli.specs.Pem.{IsNext};
+ghost use Rattle.berdump.specs.declared.status.Status.TheVariants.{Written};
+ghost use Rattle.berdump.specs.Runs.{HasOctets, ValueWritten, IsValueOf, FirstWritten};
+
 use crate::list::{ListError, find};
 use crate::request::Request;
 use crate::run::{has_blocks, octets_in};
@@ -22,7 +29,11 @@ fn run_octets<W: io::Write, E: io::Write>(
     octets: &[u8],
     out: &mut W,
     err: &mut E,
-) -> Status {
+) -> Status
+    ensures written { result ≡ Written
+        → ValueWritten request at octets.now (W.contents out.old) (W.contents out.new) }
+    ensures silent { result ≡ Written → Keeps (E.contents err.old) (E.contents err.new) }
+{
     let scope = Scope {
         from: 0,
         ..request.scope
@@ -51,7 +62,12 @@ fn run_block<W: io::Write, E: io::Write>(
     octets: &[u8],
     out: &mut W,
     err: &mut E,
-) -> Status {
+) -> Status
+    ensures written { result ≡ Written
+        → (block : TheBlock) × (v : List ℕ) × IsNext octets.now block × HasOctets block v
+        × ValueWritten request at v (W.contents out.old) (W.contents out.new) }
+    ensures silent { result ≡ Written → Keeps (E.contents err.old) (E.contents err.new) }
+{
     let Some(block) = next_block(octets) else {
         let place = Place {
             file: None,
@@ -79,7 +95,11 @@ pub fn run<W: io::Write, E: io::Write>(
     inputs: &[Input<'_>],
     out: &mut W,
     err: &mut E,
-) -> Status {
+) -> Status
+    ensures written { result ≡ Written
+        → FirstWritten request at inputs.now (W.contents out.old) (W.contents out.new) }
+    ensures silent { result ≡ Written → Keeps (E.contents err.old) (E.contents err.new) }
+{
     let place = Place {
         file: None,
         block: None,

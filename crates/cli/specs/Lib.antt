@@ -1,3 +1,4 @@
 pub mod Arguments
 pub mod Shown
 pub mod Pem
+pub mod Spelling

@@ -1,6 +1,6 @@
 //! Text as a terminal can show it.
-ghost use Rattle.std.specs.Prelude.{◌≡◌, true};
-ghost use Rattle.cli.specs.Shown.{IsShown, are_control, begins_control};
+ghost use Rattle.std.specs.Prelude.{◌≡◌, true, false};
+ghost use Rattle.cli.specs.Shown.{IsShown, are_control, begins_control, has_control};
 
 use std::fmt;
 
@@ -49,7 +49,8 @@ fn begins_control(octets: &[u8]) -> bool
 
 /// Returns whether no octets of a text are those of a control character in UTF-8.
 pub fn is_shown(text: &str) -> bool
-    ensures { result ≡ true → IsShown text.now }
+    ensures shown { result ≡ true → IsShown text.now }
+    ensures hidden { result ≡ false → has_control text.now ≡ true }
 {
     let mut rest = text.as_bytes();
     while let [_, behind @ ..] = rest {

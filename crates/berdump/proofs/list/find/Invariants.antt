@@ -7,7 +7,7 @@ use Rattle.berdump.proofs.list.find.Given as goal
 abbrev pub invariant-loop-count : goal.invariant-loop-count
 invariant-loop-count g l =
     IsAt l.scope l.mode l.octets (g.W.Write.contents l.initial.lines) (g.W.Write.contents l.lines) l.opened.items l.rest l.at
-    × IfSome l.begun (λ p. HasBegun l.scope l.mode l.octets l.wanted p.1.now)
+    × IfSome l.begun.behind (λ r. HasBegun l.scope l.mode l.octets l.wanted r.now)
 
 abbrev pub decreases-loop-count : goal.decreases-loop-count
 decreases-loop-count g l = left l.opened.items l.rest

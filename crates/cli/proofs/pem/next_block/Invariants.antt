@@ -1,9 +1,11 @@
--- What was passed, and what is left.
-use Rattle.std.specs.Prelude.{◌≡◌, ◌++◌, ℕ, List, length}
+-- No block begins in what was passed.
+use Rattle.std.specs.Prelude.{◌≡◌, ◌<◌, ◌≤◌, ◌-◌, ◌++◌, ℕ, List, length, codes}
+use Rattle.cli.specs.Pem.{IsNoBlock}
 use Rattle.cli.proofs.pem.next_block.Given as goal
 
-abbrev pub invariant-loop-behind : goal.invariant-loop-behind
-invariant-loop-behind l = (passed : List ℕ) × (l.octets ≡ passed ++ l.rest)
+abbrev pub invariant-loop-passed : goal.invariant-loop-passed
+invariant-loop-passed l =
+    (l.at ≤ length l.octets) × ((x y : List ℕ) → l.octets ≡ x ++ (codes "-----BEGIN " ++ y) → length x < l.at → IsNoBlock x y)
 
-abbrev pub decreases-loop-behind : goal.decreases-loop-behind
-decreases-loop-behind l = length l.rest
+abbrev pub decreases-loop-passed : goal.decreases-loop-passed
+decreases-loop-passed l = length l.octets - l.at
