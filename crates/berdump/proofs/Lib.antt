@@ -3,4 +3,5 @@ mod Fitting
 mod Walking
 mod Steps
 mod Holding
+mod Finding
 mod Running

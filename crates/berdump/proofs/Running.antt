@@ -1,29 +1,34 @@
 -- What a run wrote, at each way that it can go.
-use Rattle.std.proofs.Common.{◌≡◌, ◌≢◌, ℕ, Bool, true, false, List, [], ◌∷◌, ◌++◌, Option, codes, take, drop, refl, sym, ap}
-use Rattle.std.proofs.Common.{subst, ◌∙◌, append_assoc, append-nil, take-append-drop, arith, inl, inr}
-use Rattle.std.proofs.KnownBytes.{Appends-nil, Appends-trans, Appends-kept}
+use Rattle.std.proofs.Common.{◌≡◌, ◌≢◌, ◌≤◌, ◌<◌, ℕ, List, [], ◌∷◌, ◌++◌, Bool, true, false, Option, Some, None, codes, drop, length, refl, sym, ap}
+use Rattle.std.proofs.Common.{subst, ◌∙◌, append_assoc, append-nil, inl, inr, ◌⊎◌}
+use Rattle.std.proofs.KnownBytes.{Appends-trans, Appends-kept, Keeps-trans}
 use Rattle.std.specs.Io.KnownBytes.{Appends, Keeps}
-use Rattle.std.specs.Bool.{MatchBool}
-use Rattle.std.specs.Str.Pattern.{FindsText, HasMatch}
 use Rattle.bcder.specs.declared.mode.Mode.{Mode}
+use Rattle.bcder.specs.calls.Target.{AppendsFront, AppendsShorter}
 use Rattle.berdump.specs.declared.list.ListError.{ListError}
 use Rattle.berdump.specs.declared.list.ListError.TheVariants.{Refused, NoMemory, Target}
-use Rattle.bcder.specs.calls.Target.{AppendsFront}
+use Rattle.berdump.specs.declared.scope.Scope.{Scope}
+use Rattle.berdump.specs.declared.status.Status.{Status}
+use Rattle.berdump.specs.declared.status.Status.TheVariants as status
 use Rattle.berdump.specs.Answers.{Listed, ListedInPart, CutOff, IsUnlisted}
-use Rattle.berdump.specs.Runs.{MayBegin, Ends, IsText, AreTexts, IsTextInPart, between, behind_lines, set_apart}
-use Rattle.berdump.specs.Runs.{AllWritten, WrittenInPart, OneWritten, OneInPart, IsBetween}
-use Rattle.berdump.proofs.Walking.{written_kept}
+use Rattle.berdump.specs.Runs.{Ends, IsTitle, IsText, IsTextInPart, AreWhole, AreParts, joined, AllWritten, SomeWritten, CutWritten}
+use Rattle.berdump.specs.Runs.{IsBound, IsUntitled, IsInput, status_of, between}
+use Rattle.berdump.specs.declared.request.Request.{Request}
+use Rattle.berdump.proofs.Walking.{written_kept, keeps_nil}
 
 -- ---- octets
 
-listed_kept : (deep : Bool) (mode : Mode) (octets : List ℕ) (a b c : Option (List ℕ)) → Listed deep mode octets a b → Keeps b c → Listed deep mode octets a c
-listed_kept deep mode octets a b c h k = record { headings = h.headings; listed = h.listed; written = written_kept h.headings a b c h.written k }
+listed_kept : (scope : Scope) (mode : Mode) (octets : List ℕ) (a b c : Option (List ℕ)) → Listed scope mode octets a b → Keeps b c
+    → Listed scope mode octets a c
+listed_kept scope mode octets a b c h k = record { headings = h.headings; listed = h.listed; written = written_kept scope h.headings a b c h.written k }
 
-part_kept : (mode : Mode) (octets : List ℕ) (a b c : Option (List ℕ)) → ListedInPart mode octets a b → Keeps b c → ListedInPart mode octets a c
-part_kept mode octets a b c h k = record { headings = h.headings; stand = h.stand; written = written_kept h.headings a b c h.written k }
+part_kept : (scope : Scope) (mode : Mode) (octets : List ℕ) (a b c : Option (List ℕ)) → ListedInPart scope mode octets a b → Keeps b c
+    → ListedInPart scope mode octets a c
+part_kept scope mode octets a b c h k = record { headings = h.headings; stand = h.stand; written = written_kept scope h.headings a b c h.written k }
 
-cut_kept : (mode : Mode) (octets : List ℕ) (a b c : Option (List ℕ)) → CutOff mode octets a b → Keeps b c → CutOff mode octets a c
-cut_kept mode octets a b c h k = record {
+cut_kept : (scope : Scope) (mode : Mode) (octets : List ℕ) (a b c : Option (List ℕ)) → CutOff scope mode octets a b → Keeps b c
+    → CutOff scope mode octets a c
+cut_kept scope mode octets a b c h k = record {
   headings = h.headings;
   text = h.text;
   stand = h.stand;
@@ -32,159 +37,226 @@ cut_kept mode octets a b c h k = record {
       record { front = h.appends.front; rest = h.appends.rest; appends = Appends-kept a b c h.appends.front h.appends.appends k; whole = h.appends.whole };
 }
 
-pub ends_listed : (deep : Bool) (mode : Mode) (octets : List ℕ) (a b c : Option (List ℕ)) → Listed deep mode octets a b → Keeps b c
-    → Ends deep mode octets a c 0
-ends_listed deep mode octets a b c h k = Ends.listed refl (listed_kept deep mode octets a b c h k)
+module _ (scope : Scope) (mode : Mode) (octets w : List ℕ) (a b c : Option (List ℕ)) (is : w ≡ drop scope.from octets) (k : Keeps b c) where
+  pub ends_listed : (s : Status) → s ≡ status.Written → scope.from ≤ length octets → Listed scope mode w a b → Ends scope mode octets a c s
+  ends_listed s e l h = Ends.listed e l (listed_kept scope mode (drop scope.from octets) a b c (subst (λ z. Listed scope mode z a b) is h) k)
 
-pub ends_unflushed : (deep : Bool) (mode : Mode) (octets : List ℕ) (a b c : Option (List ℕ)) (status : ℕ) → status ≡ 1 → Listed deep mode octets a b → Keeps b c
-    → Ends deep mode octets a c status
-ends_unflushed deep mode octets a b c status s h k = Ends.unflushed s (listed_kept deep mode octets a b c h k)
+  pub ends_unflushed : (s : Status) → s ≡ status.Failed → Listed scope mode w a b → Ends scope mode octets a c s
+  ends_unflushed s e h = Ends.unflushed e (listed_kept scope mode (drop scope.from octets) a b c (subst (λ z. Listed scope mode z a b) is h) k)
 
-pub ends_unlisted : (deep : Bool) (mode : Mode) (octets : List ℕ) (a b c : Option (List ℕ)) (status : ℕ) (e : ListError) → status ≡ 1
-    → IsUnlisted deep mode octets a b e → Keeps b c → Ends deep mode octets a c status
-ends_unlisted deep mode octets a b c status (Refused at why) s u k = Ends.refused s u.2 (part_kept mode octets a b c u.0 k)
-ends_unlisted deep mode octets a b c status NoMemory s u k = Ends.no_memory s (part_kept mode octets a b c u k)
-ends_unlisted deep mode octets a b c status (Target e) s u k = Ends.out_failed s (cut_kept mode octets a b c u k)
+  pub ends_unlisted : (s : Status) (e : ListError) → s ≡ status_of e → IsUnlisted scope mode w a b e → Ends scope mode octets a c s
+  ends_unlisted s (Refused at why) e u = let v = subst (λ z. IsUnlisted scope mode z a b (Refused at why)) is u in
+      Ends.refused e v.2 (part_kept scope mode (drop scope.from octets) a b c v.0 k)
+  ends_unlisted s NoMemory e u = Ends.no_memory e (part_kept scope mode (drop scope.from octets) a b c
+      (subst (λ z. ListedInPart scope mode z a b) is u) k)
+  ends_unlisted s (Target x) e u = Ends.out_failed e (cut_kept scope mode (drop scope.from octets) a b c (subst (λ z. CutOff scope mode z a b) is u) k)
 
-pub status_one : (deep : Bool) (mode : Mode) (octets : List ℕ) (a b : Option (List ℕ)) (status : ℕ) → status ≢ 0 → Ends deep mode octets a b status → status ≡ 1
-status_one deep mode octets a b status n (Ends.listed e h) = absurd (n e)
-status_one deep mode octets a b status n (Ends.refused e l h) = e
-status_one deep mode octets a b status n (Ends.no_memory e h) = e
-status_one deep mode octets a b status n (Ends.out_failed e h) = e
-status_one deep mode octets a b status n (Ends.unflushed e h) = e
+-- ---- texts in a row
 
--- ---- one of several
+joined_more : (ts us : List (List ℕ)) → joined (ts ++ us) ≡ joined ts ++ joined us
+joined_more [] us = refl
+joined_more (t ∷ ts) us = ap (λ z. t ++ z) (joined_more ts us) ∙ sym (append_assoc t (joined ts) (joined us))
 
-module _ (deep : Bool) (mode : Mode) (octets : List ℕ) (is_first : Bool) (a b c : Option (List ℕ)) (p : Appends a b (between is_first)) where
-  pub one_written : (status : ℕ) → status ≡ 0 → Ends deep mode octets b c status → OneWritten deep mode is_first a c
-  one_written status z (Ends.listed e h) = record {
-    text = h.written.text;
-    is_text = record { octets = octets; headings = h.headings; listed = h.listed; lines = h.written.lines };
-    appends = Appends-trans a b c (between is_first) h.written.text p h.written.appends;
+module _ (scope : Scope) (mode : Mode) where
+  whole_more : (ts us : List (List ℕ)) → AreWhole scope mode ts → AreWhole scope mode us → AreWhole scope mode (ts ++ us)
+  whole_more [] us h k = k
+  whole_more (t ∷ ts) us h k = (h.0, whole_more ts us h.1 k)
+
+  parts_more : (ts us : List (List ℕ)) → AreParts scope mode ts → AreParts scope mode us → AreParts scope mode (ts ++ us)
+  parts_more [] us h k = k
+  parts_more (t ∷ ts) us h k = (h.0, parts_more ts us h.1 k)
+
+  text_in_part : (t : List ℕ) → IsText scope mode t → IsTextInPart scope mode t
+  text_in_part t h = record { octets = h.octets; headings = h.headings; some = inr h.listed; lines = h.lines }
+
+  one_part : (t : List ℕ) → IsTitle t ⊎ IsText scope mode t → IsTitle t ⊎ IsTextInPart scope mode t
+  one_part t (inl h) = inl h
+  one_part t (inr h) = inr (text_in_part t h)
+
+  whole_parts : (ts : List (List ℕ)) → AreWhole scope mode ts → AreParts scope mode ts
+  whole_parts [] h = tt
+  whole_parts (t ∷ ts) h = (one_part t h.0, whole_parts ts h.1)
+
+  pub all_none : (a b : Option (List ℕ)) → Keeps a b → AllWritten scope mode a b
+  all_none a b k = record { texts = []; are = tt; appends = keeps_nil a b k }
+
+  pub all_join : (a b c : Option (List ℕ)) → AllWritten scope mode a b → AllWritten scope mode b c → AllWritten scope mode a c
+  all_join a b c h k = record {
+    texts = h.texts ++ k.texts;
+    are = whole_more h.texts k.texts h.are k.are;
+    appends = subst (Appends a c) (sym (joined_more h.texts k.texts)) (Appends-trans a b c (joined h.texts) (joined k.texts) h.appends k.appends);
   }
-  one_written status z (Ends.refused e l h) = absurd (omega (arith, z, e))
-  one_written status z (Ends.no_memory e h) = absurd (omega (arith, z, e))
-  one_written status z (Ends.out_failed e h) = absurd (omega (arith, z, e))
-  one_written status z (Ends.unflushed e h) = absurd (omega (arith, z, e))
 
-  in_part : (text : List ℕ) → IsTextInPart deep mode text → AppendsFront b c text → OneInPart deep mode is_first a c
-  in_part text t f = record {
-    text = text;
-    in_part = t;
+  pub some_all : (a b : Option (List ℕ)) → AllWritten scope mode a b → SomeWritten scope mode a b
+  some_all a b h = record { texts = h.texts; are = whole_parts h.texts h.are; appends = h.appends }
+
+  pub some_join : (a b c : Option (List ℕ)) → SomeWritten scope mode a b → SomeWritten scope mode b c → SomeWritten scope mode a c
+  some_join a b c h k = record {
+    texts = h.texts ++ k.texts;
+    are = parts_more h.texts k.texts h.are k.are;
+    appends = subst (Appends a c) (sym (joined_more h.texts k.texts)) (Appends-trans a b c (joined h.texts) (joined k.texts) h.appends k.appends);
+  }
+
+  pub cut_some : (a b : Option (List ℕ)) → SomeWritten scope mode a b → CutWritten scope mode a b
+  cut_some a b h = record {
+    texts = h.texts;
+    are = h.are;
+    appends = record { front = joined h.texts; rest = []; appends = h.appends; whole = sym (append-nil (joined h.texts)) };
+  }
+
+  pub cut_join : (a b c : Option (List ℕ)) → SomeWritten scope mode a b → CutWritten scope mode b c → CutWritten scope mode a c
+  cut_join a b c h k = record {
+    texts = h.texts ++ k.texts;
+    are = parts_more h.texts k.texts h.are k.are;
     appends = record {
-      front = between is_first ++ f.front;
-      rest = f.rest;
-      appends = Appends-trans a b c (between is_first) f.front p f.appends;
-      whole = ap (λ z. between is_first ++ z) f.whole ∙ sym (append_assoc (between is_first) f.front f.rest);
+      front = joined h.texts ++ k.appends.front;
+      rest = k.appends.rest;
+      appends = Appends-trans a b c (joined h.texts) k.appends.front h.appends k.appends.appends;
+      whole = joined_more h.texts k.texts ∙ ap (λ z. joined h.texts ++ z) k.appends.whole
+          ∙ sym (append_assoc (joined h.texts) k.appends.front k.appends.rest);
     };
   }
 
-  all_of : (text : List ℕ) → Appends b c text → AppendsFront b c text
-  all_of text k = record { front = text; rest = []; appends = k; whole = sym (append-nil text) }
+  -- nothing was written
+  pub bound_none : (a b : Option (List ℕ)) (s : Status) → Keeps a b → IsBound scope mode a b s
+  bound_none a b s k = let h = all_none a b k in
+      record { written = λ e. h; some = λ e. some_all a b h; cut = cut_some a b (some_all a b h) }
 
-  listed_in_part : ListedInPart mode octets b c → OneInPart deep mode is_first a c
-  listed_in_part h = in_part h.written.text (record { octets = octets; headings = h.headings; some = inl h.stand; lines = h.written.lines })
-      (all_of h.written.text h.written.appends)
+  pub bound_cut : (a b : Option (List ℕ)) (s : Status) → s ≡ status.Failed → CutWritten scope mode a b → IsBound scope mode a b s
+  bound_cut a b s e h = record { written = λ z. cc; some = λ n. absurd (n e); cut = h }
 
-  pub one_in_part : (status : ℕ) → status ≢ 0 → Ends deep mode octets b c status → OneInPart deep mode is_first a c
-  one_in_part status n (Ends.listed e h) = absurd (n e)
-  one_in_part status n (Ends.refused e l h) = listed_in_part h
-  one_in_part status n (Ends.no_memory e h) = listed_in_part h
-  one_in_part status n (Ends.out_failed e h) = in_part h.text (record { octets = octets; headings = h.headings; some = inl h.stand; lines = h.lines }) h.appends
-  one_in_part status n (Ends.unflushed e h) = in_part h.written.text
-      (record { octets = octets; headings = h.headings; some = inr h.listed; lines = h.written.lines }) (all_of h.written.text h.written.appends)
+  -- what was written before, and by the last step
+  pub bound_join : (a b c : Option (List ℕ)) (s : Status) → AllWritten scope mode a b → IsBound scope mode b c s → IsBound scope mode a c s
+  bound_join a b c s h k = record {
+    written = λ e. all_join a b c h (k.written e);
+    some = λ n. some_join a b c (some_all a b h) (k.some n);
+    cut = cut_join a b c (some_all a b h) k.cut;
+  }
 
-nothing_in_part : (deep : Bool) (mode : Mode) → IsTextInPart deep mode []
-nothing_in_part deep mode = record { octets = []; headings = []; some = inl tt; lines = refl }
+  -- ---- one text
 
-pub one_not_begun : (deep : Bool) (mode : Mode) (is_first : Bool) (a b : Option (List ℕ)) → AppendsFront a b (between is_first)
-    → OneInPart deep mode is_first a b
-one_not_begun deep mode is_first a b f = record {
-  text = [];
-  in_part = nothing_in_part deep mode;
-  appends = record { front = f.front; rest = f.rest; appends = f.appends; whole = append-nil (between is_first) ∙ f.whole };
+  one_text : (octets : List ℕ) (a b : Option (List ℕ)) → Listed scope mode octets a b → AllWritten scope mode a b
+  one_text octets a b h = record {
+    texts = h.written.text ∷ [];
+    are = (inr (record { octets = octets; headings = h.headings; listed = h.listed; lines = h.written.lines }), tt);
+    appends = subst (Appends a b) (sym (append-nil h.written.text)) h.written.appends;
+  }
+
+  one_in_part : (octets : List ℕ) (a b : Option (List ℕ)) → ListedInPart scope mode octets a b → SomeWritten scope mode a b
+  one_in_part octets a b h = record {
+    texts = h.written.text ∷ [];
+    are = (inr (record { octets = octets; headings = h.headings; some = inl h.stand; lines = h.written.lines }), tt);
+    appends = subst (Appends a b) (sym (append-nil h.written.text)) h.written.appends;
+  }
+
+  one_cut : (octets : List ℕ) (a b : Option (List ℕ)) → CutOff scope mode octets a b → CutWritten scope mode a b
+  one_cut octets a b h = record {
+    texts = h.text ∷ [];
+    are = (inr (record { octets = octets; headings = h.headings; some = inl h.stand; lines = h.lines }), tt);
+    appends = record { front = h.appends.front; rest = h.appends.rest; appends = h.appends.appends; whole = append-nil h.text ∙ h.appends.whole };
+  }
+
+  bound_some : (a b : Option (List ℕ)) (s : Status) → s ≡ status.Refused → SomeWritten scope mode a b → IsBound scope mode a b s
+  bound_some a b s e h = record { written = λ z. cc; some = λ n. h; cut = cut_some a b h }
+
+  bound_all : (a b : Option (List ℕ)) (s : Status) → AllWritten scope mode a b → IsBound scope mode a b s
+  bound_all a b s h = record { written = λ e. h; some = λ n. some_all a b h; cut = cut_some a b (some_all a b h) }
+
+  pub bound_ends : (octets : List ℕ) (a b : Option (List ℕ)) (s : Status) → Ends scope mode octets a b s → IsBound scope mode a b s
+  bound_ends octets a b s (Ends.listed e l h) = bound_all a b s (one_text (drop scope.from octets) a b h)
+  bound_ends octets a b s (Ends.outside e l k) = bound_none a b s k
+  bound_ends octets a b s (Ends.refused e n h) = bound_some a b s e (one_in_part (drop scope.from octets) a b h)
+  bound_ends octets a b s (Ends.no_memory e h) = bound_cut a b s e (cut_some a b (one_in_part (drop scope.from octets) a b h))
+  bound_ends octets a b s (Ends.out_failed e h) = bound_cut a b s e (one_cut (drop scope.from octets) a b h)
+  bound_ends octets a b s (Ends.unflushed e h) = bound_all a b s (one_text (drop scope.from octets) a b h)
+
+  -- ---- titles
+
+  pub one_title : (t : List ℕ) (a b : Option (List ℕ)) → IsTitle t → Appends a b t → AllWritten scope mode a b
+  one_title t a b h k = record { texts = t ∷ []; are = (inl h, tt); appends = subst (Appends a b) (sym (append-nil t)) k }
+
+  pub title_cut : (t : List ℕ) (a b : Option (List ℕ)) → IsTitle t → AppendsFront a b t → CutWritten scope mode a b
+  title_cut t a b h k = record {
+    texts = t ∷ [];
+    are = (inl h, tt);
+    appends = record { front = k.front; rest = k.rest; appends = k.appends; whole = append-nil t ∙ k.whole };
+  }
+
+  pub bound_untitled : (a b c : Option (List ℕ)) (e : ListError) (s : Status) → s ≡ status_of e → IsUntitled a b e → Keeps b c → IsBound scope mode a c s
+  bound_untitled a b c (Refused at why) s x u k = absurd u
+  bound_untitled a b c NoMemory s x u k = bound_none a c s (both_keep a b c u k)
+    where
+      both_keep : (a b c : Option (List ℕ)) → Keeps a b → Keeps b c → Keeps a c
+      both_keep a b c u k = Keeps-trans a b c u k
+  bound_untitled a b c (Target e) s x u k = bound_cut a c s x (cut_after a b c (u scope mode) k)
+    where
+      cut_after : (a b c : Option (List ℕ)) → CutWritten scope mode a b → Keeps b c → CutWritten scope mode a c
+      cut_after a b c h k = record {
+        texts = h.texts;
+        are = h.are;
+        appends = record {
+          front = h.appends.front;
+          rest = h.appends.rest;
+          appends = Appends-kept a b c h.appends.front h.appends.appends k;
+          whole = h.appends.whole;
+        };
+      }
+
+-- an empty line is a title
+pub blank_title : IsTitle (codes "\n")
+blank_title = ([], refl, refl)
+
+-- ---- steps of a loop
+
+pub keeps_self : (a : Option (List ℕ)) → Keeps a a
+keeps_self None = tt
+keeps_self (Some x) = refl
+
+pub bound_next : (scope : Scope) (mode : Mode) (a b c : Option (List ℕ)) (s t u : Status) → IsBound scope mode a b s → s ≢ status.Failed
+    → IsBound scope mode b c t → t ≢ status.Failed → (u ≡ status.Written → (s ≡ status.Written) × (t ≡ status.Written)) → IsBound scope mode a c u
+bound_next scope mode a b c s t u h n k m both = record {
+  written = λ e. let p = both e in all_join scope mode a b c (h.written p.0) (k.written p.1);
+  some = λ z. some_join scope mode a b c (h.some n) (k.some m);
+  cut = cut_join scope mode a b c (h.some n) k.cut;
 }
 
--- ---- texts, set apart
+pub bound_fails : (scope : Scope) (mode : Mode) (a b c : Option (List ℕ)) (s t u : Status) → IsBound scope mode a b s → s ≢ status.Failed
+    → IsBound scope mode b c t → u ≡ status.Failed → IsBound scope mode a c u
+bound_fails scope mode a b c s t u h n k e = bound_cut scope mode a c u e (cut_join scope mode a b c (h.some n) k.cut)
 
-behind_more : (us : List (List ℕ)) (t : List ℕ) → behind_lines (us ++ (t ∷ [])) ≡ behind_lines us ++ (codes "\n" ++ t)
-behind_more [] t = ap (λ z. codes "\n" ++ z) (append-nil t)
-behind_more (u ∷ us) t =
-    ap (λ z. codes "\n" ++ (u ++ z)) (behind_more us t) ∙ ap (λ z. codes "\n" ++ z) (sym (append_assoc u (behind_lines us) (codes "\n" ++ t)))
-    ∙ sym (append_assoc (codes "\n") (u ++ behind_lines us) (codes "\n" ++ t))
+pub not_failed : (s t u : Status) → (u ≡ s) ⊎ (u ≡ t) → s ≢ status.Failed → t ≢ status.Failed → u ≢ status.Failed
+not_failed s t u (inl e) n m k = n (sym e ∙ k)
+not_failed s t u (inr e) n m k = m (sym e ∙ k)
 
-no_first : (t : List ℕ) (ts : List (List ℕ)) → [] ≡ t ∷ ts → ⊥
-no_first t ts e = cc
+-- ---- files
 
-more_apart : (is_first : Bool) (ts : List (List ℕ)) (t : List ℕ) → (is_first ≡ true → ts ≡ [])
-    → (is_first ≡ false → (u : List ℕ) × (us : List (List ℕ)) × (ts ≡ u ∷ us)) → set_apart (ts ++ (t ∷ [])) ≡ set_apart ts ++ (between is_first ++ t)
-more_apart true ts t n l = subst (λ z. set_apart (z ++ (t ∷ [])) ≡ set_apart z ++ (between true ++ t)) (sym (n refl)) (append-nil t)
-more_apart false [] t n l = let p = l refl in absurd (no_first p.0 p.1 p.2)
-more_apart false (u ∷ us) t n l = ap (λ z. u ++ z) (behind_more us t) ∙ sym (append_assoc u (behind_lines us) (codes "\n" ++ t))
+pub whole_input : (request : Request) (octets : List ℕ) (a b : Option (List ℕ)) (s : Status) → s ≡ status.Written
+    → Ends request.scope request.mode octets a b s → IsInput request octets a b
+whole_input request octets a b s z (Ends.listed e l h) = IsInput.whole l h
+whole_input request octets a b s z (Ends.outside e l k) = let n = sym z ∙ e in cc
+whole_input request octets a b s z (Ends.refused e n h) = let n = sym z ∙ e in cc
+whole_input request octets a b s z (Ends.no_memory e h) = let n = sym z ∙ e in cc
+whole_input request octets a b s z (Ends.out_failed e h) = let n = sym z ∙ e in cc
+whole_input request octets a b s z (Ends.unflushed e h) = let n = sym z ∙ e in cc
 
-texts_more : (deep : Bool) (mode : Mode) (ts : List (List ℕ)) (t : List ℕ) → AreTexts deep mode ts → IsText deep mode t → AreTexts deep mode (ts ++ (t ∷ []))
-texts_more deep mode [] t h k = (k, tt)
-texts_more deep mode (u ∷ us) t h k = (h.0, texts_more deep mode us t h.1 k)
+-- ---- titles
 
-has_first : (ts : List (List ℕ)) (t : List ℕ) → (u : List ℕ) × (us : List (List ℕ)) × (ts ++ (t ∷ []) ≡ u ∷ us)
-has_first [] t = (t, [], refl)
-has_first (u ∷ us) t = (u, us ++ (t ∷ []), refl)
+apart : (scope : Scope) (mode : Mode) (is_first : Bool) (a b : Option (List ℕ)) → Appends a b (between is_first) → AllWritten scope mode a b
+apart scope mode true a b k = record { texts = []; are = tt; appends = k }
+apart scope mode false a b k = one_title scope mode (codes "\n") a b blank_title k
 
-pub between_begins : (deep : Bool) (mode : Mode) (a : Option (List ℕ)) → IsBetween deep mode true a a
-between_begins deep mode a = record { texts = []; are = tt; appends = Appends-nil a; first = λ e. refl; later = λ e. cc }
+pub apart_cut : (scope : Scope) (mode : Mode) (is_first : Bool) (a b : Option (List ℕ)) → AppendsFront a b (between is_first) → CutWritten scope mode a b
+apart_cut scope mode true a b k = record { texts = []; are = tt; appends = k }
+apart_cut scope mode false a b k = title_cut scope mode (codes "\n") a b blank_title k
 
-pub between_goes : (deep : Bool) (mode : Mode) (is_first : Bool) (a b c : Option (List ℕ)) → IsBetween deep mode is_first a b
-    → OneWritten deep mode is_first b c → IsBetween deep mode false a c
-between_goes deep mode is_first a b c s o = record {
-  texts = s.texts ++ (o.text ∷ []);
-  are = texts_more deep mode s.texts o.text s.are o.is_text;
-  appends = subst (Appends a c) (sym (more_apart is_first s.texts o.text s.first s.later))
-      (Appends-trans a b c (set_apart s.texts) (between is_first ++ o.text) s.appends o.appends);
-  first = λ e. cc;
-  later = λ e. has_first s.texts o.text;
-}
+pub titled : (scope : Scope) (mode : Mode) (is_first : Bool) (t w : List ℕ) (a b c d : Option (List ℕ)) → Appends a b (between is_first) → IsTitle t → w ≡ t
+    → Appends b c w → Keeps c d → AllWritten scope mode a d
+titled scope mode is_first t w a b c d h i e k f =
+    all_join scope mode a b d (apart scope mode is_first a b h) (all_join scope mode b c d (one_title scope mode t b c i (subst (Appends b c) e k))
+    (all_none scope mode c d f))
 
-pub between_ends : (deep : Bool) (mode : Mode) (is_first : Bool) (a b : Option (List ℕ)) → IsBetween deep mode is_first a b → AllWritten deep mode a b
-between_ends deep mode is_first a b s = record { texts = s.texts; are = s.are; appends = s.appends }
-
-pub between_stops : (deep : Bool) (mode : Mode) (is_first : Bool) (a b c : Option (List ℕ)) → IsBetween deep mode is_first a b
-    → OneInPart deep mode is_first b c → WrittenInPart deep mode a c
-between_stops deep mode is_first a b c s o = record {
-  texts = s.texts;
-  are = s.are;
-  last = o.text;
-  in_part = o.in_part;
-  appends = record {
-    front = set_apart s.texts ++ o.appends.front;
-    rest = o.appends.rest;
-    appends = Appends-trans a b c (set_apart s.texts) o.appends.front s.appends o.appends.appends;
-    whole = more_apart is_first s.texts o.text s.first s.later ∙ ap (λ z. set_apart s.texts ++ z) o.appends.whole
-        ∙ sym (append_assoc (set_apart s.texts) o.appends.front o.appends.rest);
-  };
-}
-
-pub between_rests : (deep : Bool) (mode : Mode) (is_first : Bool) (a b : Option (List ℕ)) → IsBetween deep mode is_first a b → WrittenInPart deep mode a b
-between_rests deep mode is_first a b s =
-    between_stops deep mode is_first a b b s
-    (one_not_begun deep mode is_first b b (record { front = []; rest = between is_first; appends = Appends-nil b; whole = refl }))
-
--- ---- all that was read, as one text
-
-pub whole_written : (deep : Bool) (mode : Mode) (octets : List ℕ) (a b : Option (List ℕ)) (status : ℕ) → status ≡ 0 → Ends deep mode octets a b status
-    → AllWritten deep mode a b
-whole_written deep mode octets a b status z e = between_ends deep mode false a b
-    (between_goes deep mode true a a b (between_begins deep mode a) (one_written deep mode octets true a a b (Appends-nil a) status z e))
-
-pub whole_in_part : (deep : Bool) (mode : Mode) (octets : List ℕ) (a b : Option (List ℕ)) (status : ℕ) → status ≢ 0 → Ends deep mode octets a b status
-    → WrittenInPart deep mode a b
-whole_in_part deep mode octets a b status n e =
-    between_stops deep mode true a a b (between_begins deep mode a) (one_in_part deep mode octets true a a b (Appends-nil a) status n e)
-
--- ---- where a block may begin
-
-pub may_begin : (w : List ℕ) (n s : List ℕ) (answer : Bool) (Q : Type 0) → w ≡ s → n ≡ codes "-----BEGIN " → answer ≡ true
-    → MatchBool answer (HasMatch (FindsText n) s) Q → MayBegin w
-may_begin w n s answer Q e k t m =
-    let h = subst (λ b. MatchBool b (HasMatch (FindsText n) s) Q) t m in
-    let split = h.2.1.split in
-    (take h.0 s, drop h.1 s, e ∙ sym (take-append-drop h.0 s) ∙ ap (λ z. take h.0 s ++ z) (split ∙ ap (λ z. z ++ drop h.1 s) k))
+pub titled_cut : (scope : Scope) (mode : Mode) (is_first : Bool) (t w : List ℕ) (a b c : Option (List ℕ)) → Appends a b (between is_first) → IsTitle t → w ≡ t
+    → AppendsShorter b c w → CutWritten scope mode a c
+titled_cut scope mode is_first t w a b c h i e k =
+    cut_join scope mode a b c (some_all scope mode a b (apart scope mode is_first a b h)) (title_cut scope mode t b c i
+    (record { front = k.front; rest = k.rest; appends = k.appends; whole = sym e ∙ k.whole }))

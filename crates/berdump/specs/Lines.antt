@@ -1,9 +1,12 @@
 -- The lines that show values.
-use Rattle.std.specs.Prelude.{◌≡◌, ℕ, ◌^◌, ◌-◌, Bool, true, false, List, [], ◌∷◌, ◌++◌, Option, Some, None, codes, decimal, min, nat_eq}
+use Rattle.std.specs.Prelude.{◌≡◌, ℕ, ◌^◌, ◌-◌, Bool, true, false, List, [], ◌∷◌, ◌++◌, Option, Some, None, codes, decimal, min}
 use Rattle.std.specs.Fmt.{format_spec, padded_integral, styled_text}
-use Rattle.std.specs.List.{list_any}
+use Rattle.std.specs.Bool.{MatchBool}
+use Rattle.cli.specs.Shown.{IsShown}
 use Rattle.bcder.specs.calls.TagText.{tag_text}
 use Rattle.berdump.specs.declared.heading.Heading.{Heading}
+use Rattle.berdump.specs.declared.scope.Scope.{Scope}
+use Rattle.berdump.specs.Scopes.{is_shown}
 
 -- a number to the right of a column of so many characters, as a hole `{:5}` writes it, and to the left, as `{:<2}`
 abbrev pub right : ℕ → ℕ → List ℕ
@@ -35,15 +38,15 @@ name_text h = codes "l=" ++ length_text h.len ++ codes " " ++ form_text h.constr
 abbrev pub heading_text : Heading → List ℕ
 heading_text h = place_text h ++ codes " " ++ name_text h
 
--- no newline stands in a text
-abbrev pub IsInOneLine : List ℕ → Type 0
-IsInOneLine w = list_any (λ c. nat_eq c 10) w ≡ false
-
--- a line of a heading: its text, what may be said of the contents, and a newline
+-- a line of a heading: its text, what may be said of the contents, without control characters, and a newline
 abbrev pub IsLine : Heading → List ℕ → Type 0
-IsLine h w = (note : List ℕ) × IsInOneLine note × (w ≡ heading_text h ++ note ++ codes "\n")
+IsLine h w = (note : List ℕ) × IsShown note × (w ≡ heading_text h ++ note ++ codes "\n")
+
+-- the line of a heading, if values of its depth have one
+abbrev pub HasLine : Scope → Heading → List ℕ → Type 0
+HasLine scope h w = MatchBool (is_shown scope h.depth) (IsLine h w) (w ≡ [])
 
 -- a line for each heading
-abbrev pub AreLines : List Heading → List ℕ → Type 0
-AreLines [] w = w ≡ []
-AreLines (h ∷ hs) w = (first others : List ℕ) × IsLine h first × AreLines hs others × (w ≡ first ++ others)
+abbrev pub AreLines : Scope → List Heading → List ℕ → Type 0
+AreLines scope [] w = w ≡ []
+AreLines scope (h ∷ hs) w = (first others : List ℕ) × HasLine scope h first × AreLines scope hs others × (w ≡ first ++ others)

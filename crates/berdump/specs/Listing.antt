@@ -9,6 +9,7 @@ use Rattle.bcder.specs.calls.ContentsLen.{length_of}
 use Rattle.bcder.specs.x690.Tree.{Trees}
 use Rattle.bcder.specs.x690.Encoding.{IsHeader, AreEncodings}
 use Rattle.berdump.specs.declared.heading.Heading.{Heading}
+use Rattle.berdump.specs.declared.scope.Scope.{Scope}
 
 abbrev pub heading : Tag → Bool → (depth offset header : ℕ) → Option ℕ → Heading
 heading t form depth offset header len = record { tag = t; constructed = form; depth = depth; offset = offset; header = header; len = len }
@@ -38,30 +39,30 @@ HoldsNone mode t contents = (inside : List ℕ) → Holds mode t contents inside
 
 mutual
   -- w is the encoding of a value, and hs are the headings of it and of the values inside it, each before those inside it,
-  -- if it stands at an offset and a depth; if deep, the values that a string holds are inside it
-  pub data IsListed (deep : Bool) (mode : Mode) : List ℕ → ℕ → ℕ → List Heading → Type 0 where
+  -- if it stands at an offset and a depth; if the scope is inside strings, the values that one holds are inside it
+  pub data IsListed (scope : Scope) (mode : Mode) : List ℕ → ℕ → ℕ → List Heading → Type 0 where
     primitive : {w : List ℕ} {at depth : ℕ} {hs : List Heading} (t : Tag) (header contents : List ℕ)
-        → IsHeader mode t false (length_of (Some (length contents))) header → (deep ≡ true → HoldsNone mode t contents)
+        → IsHeader mode t false (length_of (Some (length contents))) header → (scope.inside ≡ true → HoldsNone mode t contents)
         → w ≡ header ++ contents
-        → hs ≡ heading t false depth at (length header) (Some (length contents)) ∷ [] → IsListed deep mode w at depth hs
+        → hs ≡ heading t false depth at (length header) (Some (length contents)) ∷ [] → IsListed scope mode w at depth hs
     definite : {w : List ℕ} {at depth : ℕ} {hs : List Heading} (t : Tag) (header contents : List ℕ) (inside : List Heading)
         → IsHeader mode t true (length_of (Some (length contents))) header
-        → AreListed deep mode contents (at + length header) (depth + 1) inside
+        → AreListed scope mode contents (at + length header) (depth + 1) inside
         → w ≡ header ++ contents → hs ≡ heading t true depth at (length header) (Some (length contents)) ∷ inside
-        → IsListed deep mode w at depth hs
+        → IsListed scope mode w at depth hs
     indefinite : {w : List ℕ} {at depth : ℕ} {hs : List Heading} (t : Tag) (header contents end : List ℕ) (inside : List Heading)
-        → IsHeader mode t true (length_of None) header → AreListed deep mode contents (at + length header) (depth + 1) inside
+        → IsHeader mode t true (length_of None) header → AreListed scope mode contents (at + length header) (depth + 1) inside
         → IsEndOfContents mode end
-        → w ≡ header ++ (contents ++ end) → hs ≡ heading t true depth at (length header) None ∷ inside → IsListed deep mode w at depth hs
+        → w ≡ header ++ (contents ++ end) → hs ≡ heading t true depth at (length header) None ∷ inside → IsListed scope mode w at depth hs
     opened : {w : List ℕ} {at depth : ℕ} {hs : List Heading} (t : Tag) (header front contents : List ℕ) (inside : List Heading)
-        → deep ≡ true → IsHeader mode t false (length_of (Some (length (front ++ contents)))) header → IsFront t front → contents ≢ []
-        → AreListed deep mode contents (at + length header + length front) (depth + 1) inside
+        → scope.inside ≡ true → IsHeader mode t false (length_of (Some (length (front ++ contents)))) header → IsFront t front → contents ≢ []
+        → AreListed scope mode contents (at + length header + length front) (depth + 1) inside
         → w ≡ header ++ (front ++ contents) → hs ≡ heading t false depth at (length header) (Some (length (front ++ contents))) ∷ inside
-        → IsListed deep mode w at depth hs
+        → IsListed scope mode w at depth hs
 
   -- the same of a list of values
-  pub data AreListed (deep : Bool) (mode : Mode) : List ℕ → ℕ → ℕ → List Heading → Type 0 where
-    none : {w : List ℕ} {at depth : ℕ} {hs : List Heading} → w ≡ [] → hs ≡ [] → AreListed deep mode w at depth hs
+  pub data AreListed (scope : Scope) (mode : Mode) : List ℕ → ℕ → ℕ → List Heading → Type 0 where
+    none : {w : List ℕ} {at depth : ℕ} {hs : List Heading} → w ≡ [] → hs ≡ [] → AreListed scope mode w at depth hs
     more : {w : List ℕ} {at depth : ℕ} {hs : List Heading} (first others : List ℕ) (these those : List Heading)
-        → IsListed deep mode first at depth these → AreListed deep mode others (at + length first) depth those
-        → w ≡ first ++ others → hs ≡ these ++ those → AreListed deep mode w at depth hs
+        → IsListed scope mode first at depth these → AreListed scope mode others (at + length first) depth those
+        → w ≡ first ++ others → hs ≡ these ++ those → AreListed scope mode w at depth hs

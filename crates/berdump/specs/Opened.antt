@@ -1,10 +1,11 @@
 -- The open values while octets are listed, the innermost first, and what is still to be listed.
-use Rattle.std.specs.Prelude.{◌≡◌, ◌≢◌, ℕ, ◌+◌, Bool, List, [], ◌∷◌, ◌++◌, length}
+use Rattle.std.specs.Prelude.{◌≡◌, ◌≢◌, ℕ, ◌+◌, List, [], ◌∷◌, ◌++◌, length}
 use Rattle.bcder.specs.declared.mode.Mode.{Mode}
 use Rattle.bcder.specs.x690.Tree.{Trees}
 use Rattle.bcder.specs.x690.Length.{IsEndOfContents}
 use Rattle.bcder.specs.x690.Encoding.{AreEncodings}
 use Rattle.berdump.specs.declared.heading.Heading.{Heading}
+use Rattle.berdump.specs.declared.scope.Scope.{Scope}
 use Rattle.berdump.specs.declared.opened.Open.{Open}
 use Rattle.berdump.specs.declared.opened.Open.TheVariants.{Definite, Indefinite}
 use Rattle.berdump.specs.Listing.{AreListed, IsList}
@@ -16,19 +17,19 @@ behind_all (Definite behind ∷ es) = behind.now ++ behind_all es
 behind_all (Indefinite ∷ es) = behind_all es
 
 -- the octets at an offset end all open values, and hs are the headings that are met up to there
-abbrev pub Completes : Bool → Mode → List Open → List ℕ → ℕ → List Heading → Type 0
-Completes deep mode [] w at hs = AreListed deep mode w at 0 hs
-Completes deep mode (Definite behind ∷ es) w at hs =
-    (inside more : List Heading) × AreListed deep mode w at (length es + 1) inside × Completes deep mode es behind.now (at + length w) more
+abbrev pub Completes : Scope → Mode → List Open → List ℕ → ℕ → List Heading → Type 0
+Completes scope mode [] w at hs = AreListed scope mode w at 0 hs
+Completes scope mode (Definite behind ∷ es) w at hs =
+    (inside more : List Heading) × AreListed scope mode w at (length es + 1) inside × Completes scope mode es behind.now (at + length w) more
     × (hs ≡ inside ++ more)
-Completes deep mode (Indefinite ∷ es) w at hs =
-    (contents end others : List ℕ) × (inside more : List Heading) × AreListed deep mode contents at (length es + 1) inside
-    × IsEndOfContents mode end × Completes deep mode es others (at + (length contents + length end)) more
+Completes scope mode (Indefinite ∷ es) w at hs =
+    (contents end others : List ℕ) × (inside more : List Heading) × AreListed scope mode contents at (length es + 1) inside
+    × IsEndOfContents mode end × Completes scope mode es others (at + (length contents + length end)) more
     × (w ≡ contents ++ (end ++ others)) × (hs ≡ inside ++ more)
 
 -- what completes the one state completes the other
-abbrev pub Goes : Bool → Mode → List Open → List ℕ → ℕ → List Open → List ℕ → ℕ → Type 0
-Goes deep mode es w at fs v behind = (hs : List Heading) → Completes deep mode fs v behind hs → Completes deep mode es w at hs
+abbrev pub Goes : Scope → Mode → List Open → List ℕ → ℕ → List Open → List ℕ → ℕ → Type 0
+Goes scope mode es w at fs v behind = (hs : List Heading) → Completes scope mode fs v behind hs → Completes scope mode es w at hs
 
 -- the octets may end all open values, whatever the headings
 abbrev pub Fits : Mode → List Open → List ℕ → Type 0

@@ -13,7 +13,7 @@ use bcder::{Mode, NoMemory, Tag};
 use std::alloc::Global;
 
 /// Returns whether octets are the encodings of values in the mode.
-fn is_list(alloc: Global, mode: Mode, octets: &[u8]) -> Result<bool, NoMemory>
+pub(crate) fn is_list(alloc: Global, mode: Mode, octets: &[u8]) -> Result<bool, NoMemory>
     ensures yes { IfOk result (λ answer. answer ≡ true → IsList mode octets.now) }
     ensures no { IfOk result (λ answer. answer ≡ false → IsNoList mode octets.now) }
 {

@@ -1,18 +1,28 @@
 //! Lists the values of an encoding.
-ghost use Rattle.std.specs.Prelude.{◌≡◌, ◌≢◌, ◌+◌, ◌<◌, ◌^◌, [], ◌∷◌, length};
-ghost use Rattle.std.specs.Prelude.{IfOk, OnOk, IfErr, string_bytes};
-ghost use Rattle.berdump.specs.Answers.{IsUnlisted, IsUnwritten, Listed, Written};
-ghost use Rattle.berdump.specs.Lines.{IsInOneLine, IsLine};
+ghost use Rattle.std.specs.Prelude.{◌≡◌, ◌≢◌, ◌⊎◌, ℕ, ◌+◌, ◌<◌, ◌^◌, Bool, Option};
+ghost use Rattle.std.specs.Prelude.{List, [], ◌∷◌, ◌++◌, length};
+ghost use Rattle.std.specs.Prelude.{IfOk, OnOk, IfErr, IfSome, string_bytes};
+ghost use Rattle.bcder.specs.calls.ContentsLen.{length_of};
+ghost use Rattle.bcder.specs.x690.Encoding.{IsHeader};
+ghost use Rattle.bcder.specs.x690.Identifier.{Tag};
+ghost use Rattle.cli.specs.Shown.{IsShown};
+ghost use Rattle.berdump.specs.Answers.{HasContents, IsUnlisted, IsUnwritten, Listed, Written};
+ghost use Rattle.berdump.specs.declared.list.Reason.TheVariants.{Contents, TooLong};
+ghost use Rattle.berdump.specs.Lines.{IsLine};
 ghost use Rattle.berdump.specs.Opened.{GoesOn};
+ghost use Rattle.berdump.specs.Reasons.{IsReason};
 ghost use Rattle.berdump.specs.Walk.{PassesContents, Meets, Stops, left};
 
 use crate::heading::Heading;
 use crate::held::{gone_into, held_in};
 use crate::note::add_note;
 use crate::opened::{Open, close};
+use crate::scope::{Scope, is_shown};
+use bcder::decode::Violation;
 use bcder::encode::write_octets;
 use bcder::plain::front_at;
 use bcder::{Mode, NoMemory};
+use cli::shown::is_shown as is_clean;
 use std::alloc::Global;
 use std::collections::VecDeque;
 use std::{fmt, io};
@@ -20,26 +30,30 @@ use std::{fmt, io};
 /// The reason why octets are refused.
 #[derive(Clone, Copy, Debug)]
 pub enum Reason {
-    /// No value begins here in the mode.
-    Header,
+    /// The octets here are no header, and this is what they violate.
+    Header(Violation),
 
-    /// The value that begins here has more contents octets than there are.
+    /// The octets end before the contents of the value that begins here do.
     Contents,
+
+    /// The value that begins here ends behind the end of the value around it.
+    TooLong,
+
+    /// These are end-of-contents octets, and no value of indefinite length can end here.
+    StrayEnd,
+
+    /// The octets end here, and a value of indefinite length is open.
+    NoEnd,
 }
 
 impl fmt::Display for Reason {
-    ghost use Rattle.std.specs.Prelude.{Some, codes};
-    ghost use Rattle.berdump.specs.declared.list.Reason.TheVariants.{Header, Contents};
-
-    ghost output = { elim [
-      | Header ↦ Some (codes "no value of these rules begins here, and none ends")
-      | Contents ↦ Some (codes "the contents of this value aren't all here")
-    ] };
-
     fn fmt<W: fmt::Write>(&self, f: &mut fmt::Formatter<W>) -> fmt::Result {
         match self {
-            Reason::Header => write!(f, "no value of these rules begins here, and none ends"),
-            Reason::Contents => write!(f, "the contents of this value aren't all here"),
+            Reason::Header(violation) => write!(f, "{}", violation.text()),
+            Reason::Contents => write!(f, "the contents of this value are cut short"),
+            Reason::TooLong => write!(f, "this value ends behind the end of the value around it"),
+            Reason::StrayEnd => write!(f, "end-of-contents octets where none belong"),
+            Reason::NoEnd => write!(f, "end-of-contents octets are missing"),
         }
     }
 }
@@ -68,23 +82,32 @@ impl From<NoMemory> for ListError {
     }
 }
 
-/// Returns the note on contents octets, which hold encodings or don't. No note has a newline; the
-/// check for one proves that the line is one line.
+/// Returns the note on contents octets, which hold encodings or don't. No note has a control
+/// character; the check for them proves that the line is one line.
 fn note_of(
     alloc: Global,
     mode: Mode,
+    scope: Scope,
     heading: Heading,
     contents: &[u8],
     holds: bool,
 ) -> Result<String, NoMemory>
-    ensures { IfOk result (λ note. IsInOneLine (string_bytes note)) }
+    ensures { IfOk result (λ note. IsShown (string_bytes note)) }
 {
     if heading.constructed {
         return Ok(String::new(alloc));
     }
     let mut note = String::new(alloc);
-    add_note(alloc, &mut note, mode, heading.tag, contents, holds)?;
-    if note.as_bytes().contains(&b'\n') {
+    add_note(
+        alloc,
+        &mut note,
+        mode,
+        scope.whole,
+        heading.tag,
+        contents,
+        holds,
+    )?;
+    if !is_clean(note.as_str()) {
         return Ok(String::new(alloc));
     }
     Ok(note)
@@ -94,33 +117,38 @@ fn note_of(
 fn line(
     alloc: Global,
     mode: Mode,
+    scope: Scope,
     heading: Heading,
     contents: &[u8],
     holds: bool,
 ) -> Result<String, NoMemory>
     ensures { IfOk result (λ text. IsLine heading (string_bytes text)) }
 {
-    let note = note_of(alloc, mode, heading, contents, holds)?;
+    let note = note_of(alloc, mode, scope, heading, contents, holds)?;
     let mut text = String::new(alloc);
     write!(text, "{heading}{}\n", note.as_str())?;
     Ok(text)
 }
 
-/// Writes the line of a value.
+/// Writes the line of a value, if it has one.
 fn write_line<W: io::Write>(
     alloc: Global,
     mode: Mode,
+    scope: Scope,
     heading: Heading,
     contents: &[u8],
     holds: bool,
     target: &mut W,
 ) -> Result<(), ListError>
     ensures written { OnOk result
-        (Written (heading ∷ []) (W.contents target.old) (W.contents target.new)) }
+        (Written scope (heading ∷ []) (W.contents target.old) (W.contents target.new)) }
     ensures unwritten { IfErr result
-        (IsUnwritten heading (W.contents target.old) (W.contents target.new)) }
+        (IsUnwritten scope heading (W.contents target.old) (W.contents target.new)) }
 {
-    let text = match line(alloc, mode, heading, contents, holds) {
+    if !is_shown(scope, heading.depth) {
+        return Ok(());
+    }
+    let text = match line(alloc, mode, scope, heading, contents, holds) {
         Ok(text) => text,
         Err(NoMemory) => return Err(ListError::NoMemory),
     };
@@ -141,6 +169,7 @@ struct Place<'a> {
 fn open_value<'a, W: io::Write>(
     alloc: Global,
     mode: Mode,
+    scope: Scope,
     heading: Heading,
     contents: &[u8],
     value: Open<'a>,
@@ -149,14 +178,14 @@ fn open_value<'a, W: io::Write>(
 ) -> Result<(), ListError>
     ensures opens { OnOk result (opened.new.items ≡ value.entry ∷ opened.old.items) }
     ensures written { OnOk result
-        (Written (heading ∷ []) (W.contents target.old) (W.contents target.new)) }
+        (Written scope (heading ∷ []) (W.contents target.old) (W.contents target.new)) }
     ensures unwritten { IfErr result
-        (IsUnwritten heading (W.contents target.old) (W.contents target.new)) }
+        (IsUnwritten scope heading (W.contents target.old) (W.contents target.new)) }
 {
     if opened.push_front(value).is_err() {
         return Err(ListError::NoMemory);
     }
-    write_line(alloc, mode, heading, contents, true, target)
+    write_line(alloc, mode, scope, heading, contents, true, target)
 }
 
 /// Lists a primitive value whose contents octets are at an offset, and opens it if it holds
@@ -164,7 +193,7 @@ fn open_value<'a, W: io::Write>(
 fn list_primitive<'a, W: io::Write>(
     alloc: Global,
     mode: Mode,
-    inside: bool,
+    scope: Scope,
     heading: Heading,
     contents: &'a [u8],
     behind: &'a [u8],
@@ -174,19 +203,27 @@ fn list_primitive<'a, W: io::Write>(
 ) -> Result<Place<'a>, ListError>
     requires { at + length contents.now < 2 ^ 64 }
     ensures passes { IfOk result
-        (λ p. PassesContents inside mode heading.tag contents.now behind.now at
+        (λ p. PassesContents scope mode heading.tag contents.now behind.now at
         opened.old.items opened.new.items p.rest.now p.at) }
     ensures written { OnOk result
-        (Written (heading ∷ []) (W.contents target.old) (W.contents target.new)) }
+        (Written scope (heading ∷ []) (W.contents target.old) (W.contents target.new)) }
     ensures unwritten { IfErr result
-        (IsUnwritten heading (W.contents target.old) (W.contents target.new)) }
+        (IsUnwritten scope heading (W.contents target.old) (W.contents target.new)) }
 {
     let held = match held_in(alloc, mode, heading.tag, contents) {
         Ok(held) => held,
         Err(NoMemory) => return Err(ListError::NoMemory),
     };
-    let Some(rest) = gone_into(inside, held) else {
-        if let Err(error) = write_line(alloc, mode, heading, contents, held.is_some(), target) {
+    let Some(rest) = gone_into(scope.inside, held) else {
+        if let Err(error) = write_line(
+            alloc,
+            mode,
+            scope,
+            heading,
+            contents,
+            held.is_some(),
+            target,
+        ) {
             return Err(error);
         }
         return Ok(Place {
@@ -196,10 +233,37 @@ fn list_primitive<'a, W: io::Write>(
     };
     let at = at + (contents.len() - rest.len());
     let value = Open::Definite(behind);
-    if let Err(error) = open_value(alloc, mode, heading, contents, value, opened, target) {
+    if let Err(error) = open_value(alloc, mode, scope, heading, contents, value, opened, target) {
         return Err(error);
     }
     Ok(Place { rest, at })
+}
+
+/// Returns why octets begin with no header, where they don't end a value.
+fn reason_at(mode: Mode, rest: &[u8]) -> Reason
+    requires { (t : Tag) (form : Bool) (n : Option ℕ) (w x : List ℕ)
+        → IsHeader mode t form (length_of n) w → rest.now ≡ w ++ x → ⊥ }
+    ensures { IsReason mode rest.now result }
+{
+    if rest.is_empty() {
+        return Reason::NoEnd;
+    }
+    match Violation::at(mode, rest) {
+        Some(violation) => Reason::Header(violation),
+        None => Reason::StrayEnd,
+    }
+}
+
+/// Returns why a value is too long, which is inside these values.
+fn shortness(opened: &VecDeque<Open<'_>>) -> Reason
+    ensures { result ≡ Contents ⊎ result ≡ TooLong }
+{
+    for value in opened.iter() {
+        if let Open::Definite(_) = value {
+            return Reason::TooLong;
+        }
+    }
+    Reason::Contents
 }
 
 /// Lists the value that the octets, which are at an offset, begin with, and opens it if values
@@ -207,7 +271,7 @@ fn list_primitive<'a, W: io::Write>(
 fn list_value<'a, W: io::Write>(
     alloc: Global,
     mode: Mode,
-    inside: bool,
+    scope: Scope,
     rest: &'a [u8],
     at: usize,
     opened: &mut VecDeque<Open<'a>>,
@@ -217,16 +281,16 @@ fn list_value<'a, W: io::Write>(
     requires goes_on { GoesOn mode opened.old.items rest.now }
     requires some { opened.old.items ≡ [] → rest.now ≢ [] }
     ensures meets { IfOk result
-        (λ p. Meets inside mode opened.old.items rest.now at (W.contents target.old)
+        (λ p. Meets scope mode opened.old.items rest.now at (W.contents target.old)
         opened.new.items p.rest.now p.at (W.contents target.new)) }
     ensures less { IfOk result
         (λ p. left opened.new.items p.rest.now < left opened.old.items rest.now) }
     ensures stops { IfErr result
-        (Stops inside mode opened.old.items rest.now at (W.contents target.old)
+        (Stops scope mode opened.old.items rest.now at (W.contents target.old)
         (W.contents target.new)) }
 {
     let Some(front) = front_at(mode, rest) else {
-        return Err(ListError::Refused(at, Reason::Header));
+        return Err(ListError::Refused(at, reason_at(mode, rest)));
     };
     let header = rest.len() - front.rest.len();
     let heading = Heading {
@@ -240,7 +304,7 @@ fn list_value<'a, W: io::Write>(
     let inner = at + header;
     let Some(len) = front.len else {
         let value = Open::Indefinite;
-        if let Err(error) = open_value(alloc, mode, heading, &[], value, opened, target) {
+        if let Err(error) = open_value(alloc, mode, scope, heading, &[], value, opened, target) {
             return Err(error);
         }
         return Ok(Place {
@@ -249,12 +313,14 @@ fn list_value<'a, W: io::Write>(
         });
     };
     if front.rest.len() < len {
-        return Err(ListError::Refused(at, Reason::Contents));
+        return Err(ListError::Refused(at, shortness(opened)));
     }
     let (contents, behind) = front.rest.split_at(len);
     if front.constructed {
         let value = Open::Definite(behind);
-        if let Err(error) = open_value(alloc, mode, heading, contents, value, opened, target) {
+        if let Err(error) = open_value(
+            alloc, mode, scope, heading, contents, value, opened, target,
+        ) {
             return Err(error);
         }
         return Ok(Place {
@@ -263,13 +329,14 @@ fn list_value<'a, W: io::Write>(
         });
     }
     list_primitive(
-        alloc, mode, inside, heading, contents, behind, inner, opened, target,
+        alloc, mode, scope, heading, contents, behind, inner, opened, target,
     )
 }
 
 /// Writes a line for each value that the octets encode in the mode, and for each value inside it,
-/// before those inside. If `inside` is true, the values whose encodings an OCTET STRING or a BIT
-/// STRING holds count as inside it.
+/// before those inside, if the scope takes in its depth. The first octet is at the scope's offset.
+/// If the scope is inside strings, the values whose encodings an OCTET STRING or a BIT STRING holds
+/// are inside it.
 ///
 /// # Errors
 ///
@@ -280,18 +347,19 @@ fn list_value<'a, W: io::Write>(
 pub fn list<W: io::Write>(
     alloc: Global,
     mode: Mode,
-    inside: bool,
+    scope: Scope,
     octets: &[u8],
     target: &mut W,
 ) -> Result<(), ListError>
+    requires room { scope.from + length octets.now < 2 ^ 64 }
     ensures listed { OnOk result
-        (Listed inside mode octets.now (W.contents target.old) (W.contents target.new)) }
+        (Listed scope mode octets.now (W.contents target.old) (W.contents target.new)) }
     ensures unlisted { IfErr result
-        (IsUnlisted inside mode octets.now (W.contents target.old) (W.contents target.new)) }
+        (IsUnlisted scope mode octets.now (W.contents target.old) (W.contents target.new)) }
 {
     let mut opened = VecDeque::new(alloc);
     let mut rest = octets;
-    let mut at = 0usize;
+    let mut at = scope.from;
     loop {
         if let Some((count, behind)) = close(mode, &mut opened, rest) {
             at += count;
@@ -301,7 +369,67 @@ pub fn list<W: io::Write>(
         if rest.is_empty() && opened.is_empty() {
             return Ok(());
         }
-        match list_value(alloc, mode, inside, rest, at, &mut opened, target) {
+        match list_value(alloc, mode, scope, rest, at, &mut opened, target) {
+            Ok(place) => {
+                rest = place.rest;
+                at = place.at;
+            }
+            Err(error) => return Err(error),
+        }
+    }
+}
+
+/// Returns the contents octets of the value whose header is at an offset, or `None` if no value of
+/// the scope is there. The lines of the values up to there are written too.
+///
+/// # Errors
+///
+/// As those of `list`, up to the end of the value.
+pub fn find<'a, W: io::Write>(
+    alloc: Global,
+    mode: Mode,
+    scope: Scope,
+    octets: &'a [u8],
+    wanted: usize,
+    lines: &mut W,
+) -> Result<Option<&'a [u8]>, ListError>
+    requires room { scope.from + length octets.now < 2 ^ 64 }
+    ensures { IfOk result (λ found. IfSome found
+        (λ contents. HasContents scope mode octets.now wanted contents.now)) }
+{
+    let mut opened = VecDeque::new(alloc);
+    let mut rest = octets;
+    let mut at = scope.from;
+    // What follows the header of the value, and how many values it is in, if it is open.
+    let mut begun: Option<(usize, &[u8])> = None;
+    loop {
+        if let Some((count, behind)) = close(mode, &mut opened, rest) {
+            if let Some((depth, contents)) = begun {
+                if depth == opened.len() {
+                    let len = contents.len().saturating_sub(rest.len());
+                    return Ok(Some(contents.split_at(len).0));
+                }
+            }
+            at += count;
+            rest = behind;
+            continue;
+        }
+        if rest.is_empty() && opened.is_empty() {
+            return Ok(None);
+        }
+        if at == wanted {
+            if let Some(front) = front_at(mode, rest) {
+                match front.len {
+                    None => begun = Some((opened.len(), front.rest)),
+                    Some(len) => {
+                        if len <= front.rest.len() {
+                            return Ok(Some(front.rest.split_at(len).0));
+                        }
+                    }
+                }
+            }
+        }
+        match list_value(alloc, mode, scope, rest, at, &mut opened, lines) {
             Ok(place) => {
                 rest = place.rest;
                 at = place.at;

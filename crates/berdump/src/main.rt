@@ -1,9 +1,9 @@
 //! Lists the values of BER, CER or DER data.
 //!
-//! `berdump [--ber|--cer|--der] [--inside] [FILE]` reads the file, or standard input, as values in
-//! the encoding rules that are named, else in BER. It prints a line for each value, before those of
-//! the values inside it: the offset, the depth, the lengths of the header and of the contents, the
-//! form, the tag, and what the contents octets of a primitive value mean.
+//! `berdump [OPTION ..] [FILE ..]` reads the files, or standard input, as values in the encoding
+//! rules that are named, else in BER. It prints a line for each value, before those of the values
+//! inside it: the offset, the depth, the lengths of the header and of the contents, the form, the
+//! tag, and what the contents octets of a primitive value mean.
 #![tactic(auto)]
 
 pub mod heading;
@@ -11,22 +11,46 @@ mod held;
 pub mod list;
 mod note;
 mod opened;
-mod request;
+pub mod request;
 mod run;
+pub mod scope;
+mod spelled;
+mod status;
+mod tell;
+mod title;
+mod value;
 
-use std::io::{BufWriter, Read};
+use crate::request::{Asked, Misuse, Request};
+use std::io::BufWriter;
 use std::process::ExitCode;
-use std::{env, fs, io};
+use std::{env, io};
 
-/// Returns the octets of a file, or of standard input.
-fn octets_of(rt: &HostRuntime, file: Option<&str>) -> io::Result<Vec<u8>> {
-    if let Some(path) = file {
-        return fs::read(rt, path);
-    }
-    let mut octets = Vec::new(rt.alloc());
-    rt.stdin().read_to_end(&mut octets)?;
-    Ok(octets)
-}
+/// How to use the program, in a line.
+const USAGE: &str = "usage: berdump [OPTION ..] [FILE ..]";
+
+/// How to use the program.
+const HELP: &str = "
+Lists the values of BER, CER or DER data: the offset, the depth, the lengths of
+the header and of the contents, the form, the type and the value of each.
+
+  FILE                 a file, or - for standard input, as if there is none
+  --ber, --cer, --der  the encoding rules that the octets have to follow: else
+                       those of BER
+  --inside             list also the values inside OCTET STRING and BIT STRING
+  --offset N           begin at octet N
+  --depth N            list no values that are deeper than N
+  --hex                show all octets in hexadecimal, not just the first 32
+  --value N            write the contents octets of the value at offset N, and
+                       no lines
+  --input FORM         the form of the files: hex, base64, pem or der (octets);
+                       else it is found out
+  --                   what follows are files
+  -h, --help           show this
+  --version            show the version
+
+The status is 0 if all was listed, 1 if octets were refused, and 2 if a file
+can't be read, or if the usage is wrong.
+";
 
 /// Returns the arguments without the name of the program.
 fn arguments(rt: &HostRuntime) -> io::Result<Vec<String>> {
@@ -35,31 +59,43 @@ fn arguments(rt: &HostRuntime) -> io::Result<Vec<String>> {
     Ok(args.collect(rt.alloc())?)
 }
 
-fn dump(rt: &HostRuntime) -> io::Result<u8> {
-    let args = arguments(rt)?;
-    let request = match request::read(&args) {
-        Ok(request) => request,
-        Err(word) => {
-            eprintln!(rt; "berdump: {word}: no such option, or a second file")?;
-            eprintln!(rt; "usage: berdump [--ber|--cer|--der] [--inside] [FILE]")?;
-            return Ok(2);
-        }
-    };
-    let octets = match octets_of(rt, request.file) {
-        Ok(octets) => octets,
-        Err(error) => {
-            let name = request.file.unwrap_or("standard input");
-            eprintln!(rt; "berdump: {name}: {error}")?;
-            return Ok(2);
-        }
-    };
+/// Lists files, and returns the exit status.
+fn dump(rt: &HostRuntime, request: Request, names: &[&str]) -> io::Result<u8> {
+    let mut inputs = Vec::new(rt.alloc());
+    for name in names {
+        inputs.push(cli::files::read(rt, name))?;
+    }
     let mut out = BufWriter::new(rt.alloc(), io::writer(rt))?;
     let mut err = rt.stderr();
-    Ok(run::run(rt.alloc(), request, &octets, &mut out, &mut err))
+    let status = match request.value {
+        Some(at) => value::run(rt.alloc(), request, at, &inputs, &mut out, &mut err),
+        None => run::run(rt.alloc(), request, &inputs, &mut out, &mut err),
+    };
+    Ok(status.code())
+}
+
+/// Does what the arguments ask for, and returns the exit status.
+fn answer(rt: &HostRuntime) -> io::Result<u8> {
+    let args = arguments(rt)?;
+    match request::read(rt.alloc(), &args) {
+        Ok(Asked::Help) => print!(rt; "{USAGE}\n{HELP}")?,
+        Ok(Asked::Version) => println!(rt; "berdump 0.7.7")?,
+        Ok(Asked::Files(request, names)) => return dump(rt, request, &names),
+        Err(Misuse::NoMemory) => {
+            eprintln!(rt; "berdump: out of memory")?;
+            return Ok(1);
+        }
+        Err(misuse) => {
+            eprintln!(rt; "berdump: {misuse}")?;
+            eprintln!(rt; "{USAGE}")?;
+            return Ok(2);
+        }
+    }
+    Ok(0)
 }
 
 fn main(rt: HostRuntime) -> ExitCode {
-    match dump(&rt) {
+    match answer(&rt) {
         Ok(status) => ExitCode::from(status),
         Err(error) => {
             let _ = eprintln!(rt; "berdump: {error}");

@@ -7,24 +7,36 @@ use bcder::string::{
     TextCharSet,
 };
 use bcder::{Mode, NoMemory, Oid, Tag};
+use cli::shown::{Shown, is_shown};
 use std::alloc::Global;
 
-/// The number of octets that are shown in hexadecimal.
+/// The number of octets that are shown in hexadecimal, if not all are.
 const WIDTH: usize = 32;
 
-/// Appends octets in hexadecimal, only the first of them if there are many.
-fn add_hex(alloc: Global, text: &mut String, octets: &[u8]) -> Result<(), NoMemory> {
-    let shown = octets.split_at(octets.len().min(WIDTH)).0;
-    let digits = hex::encode(alloc, shown)?;
+/// Appends octets in hexadecimal, only the first of them if there are many and not all are asked
+/// for.
+fn add_hex(alloc: Global, text: &mut String, whole: bool, octets: &[u8]) -> Result<(), NoMemory> {
+    let width = if whole {
+        octets.len()
+    } else {
+        octets.len().min(WIDTH)
+    };
+    let digits = hex::encode(alloc, octets.split_at(width).0)?;
     write!(text, " :0x{}", digits.as_str())?;
-    if octets.len() > WIDTH {
+    if width < octets.len() {
         write!(text, "...")?;
     }
     Ok(())
 }
 
 /// Appends a number in decimal if it has at most 64 bits, else its octets in hexadecimal.
-fn add_number(alloc: Global, text: &mut String, mode: Mode, octets: &[u8]) -> Result<(), NoMemory> {
+fn add_number(
+    alloc: Global,
+    text: &mut String,
+    mode: Mode,
+    whole: bool,
+    octets: &[u8],
+) -> Result<(), NoMemory> {
     if let Ok(number) = Primitive::decode_slice(octets, mode, |octets| octets.to_i64()) {
         write!(text, " :{number}")?;
         return Ok(());
@@ -33,7 +45,7 @@ fn add_number(alloc: Global, text: &mut String, mode: Mode, octets: &[u8]) -> Re
         write!(text, " :{number}")?;
         return Ok(());
     }
-    add_hex(alloc, text, octets)
+    add_hex(alloc, text, whole, octets)
 }
 
 /// Returns whether a set accepts a text.
@@ -45,13 +57,6 @@ fn is_of<L: TextCharSet>(alloc: Global, text: &str) -> Result<bool, NoMemory> {
     }
 }
 
-/// Returns whether a text is shown as it is: whether it has no control characters.
-fn is_shown(text: &str) -> bool {
-    text.as_bytes()
-        .iter()
-        .all(|octet| *octet >= 0x20 && *octet != 0x7F)
-}
-
 /// Returns whether octets are a text of the tag's character set.
 fn is_text(alloc: Global, tag: Tag, text: &str) -> Result<bool, NoMemory> {
     if tag == Tag::UTF8_STRING {
@@ -60,12 +65,10 @@ fn is_text(alloc: Global, tag: Tag, text: &str) -> Result<bool, NoMemory> {
         is_of::<NumericCharSet>(alloc, text)
     } else if tag == Tag::PRINTABLE_STRING {
         is_of::<PrintableCharSet>(alloc, text)
-    } else if tag == Tag::IA5_STRING
-        || tag == Tag::VISIBLE_STRING
-        || tag == Tag::UTC_TIME
-        || tag == Tag::GENERALIZED_TIME
-    {
+    } else if tag == Tag::IA5_STRING {
         is_of::<Ia5CharSet>(alloc, text)
+    } else if tag == Tag::VISIBLE_STRING || tag == Tag::UTC_TIME || tag == Tag::GENERALIZED_TIME {
+        Ok(is_shown(text) && is_of::<Ia5CharSet>(alloc, text)?)
     } else {
         Ok(false)
     }
@@ -77,6 +80,7 @@ pub(crate) fn add_note(
     alloc: Global,
     text: &mut String,
     mode: Mode,
+    whole: bool,
     tag: Tag,
     octets: &[u8],
     holds: bool,
@@ -88,7 +92,7 @@ pub(crate) fn add_note(
         return Ok(());
     }
     if tag == Tag::INTEGER || tag == Tag::ENUMERATED {
-        return add_number(alloc, text, mode, octets);
+        return add_number(alloc, text, mode, whole, octets);
     }
     if tag == Tag::BOOLEAN {
         if let Ok(truth) = Primitive::decode_slice(octets, mode, |octets| octets.to_bool()) {
@@ -108,20 +112,20 @@ pub(crate) fn add_note(
     if tag == Tag::BIT_STRING {
         if let [unused, bits @ ..] = octets {
             if *unused == 0 {
-                return add_hex(alloc, text, bits);
+                return add_hex(alloc, text, whole, bits);
             }
             if *unused < 8 && !bits.is_empty() {
-                add_hex(alloc, text, bits)?;
+                add_hex(alloc, text, whole, bits)?;
                 write!(text, ", {unused} unused")?;
                 return Ok(());
             }
         }
     }
     if let Ok(spelled) = str::from_utf8(octets) {
-        if is_shown(spelled) && is_text(alloc, tag, spelled)? {
-            write!(text, " :{spelled}")?;
+        if is_text(alloc, tag, spelled)? {
+            write!(text, " :{}", Shown(spelled))?;
             return Ok(());
         }
     }
-    add_hex(alloc, text, octets)
+    add_hex(alloc, text, whole, octets)
 }

@@ -1,5 +1,6 @@
 //! The values that are open, and which of them end.
-ghost use Rattle.std.specs.Prelude.{◌≡◌, ◌+◌, ◌<◌, ℕ, Bool, ◌++◌, List, length, IfSome, IfNone};
+ghost use Rattle.std.specs.Prelude.{◌≡◌, ◌+◌, ◌<◌, ℕ, ◌++◌, List, length, IfSome, IfNone};
+ghost use Rattle.berdump.specs.declared.scope.Scope.{Scope};
 ghost use Rattle.berdump.specs.Opened.{behind_all, Goes, Fits, GoesOn};
 
 use bcder::Mode;
@@ -23,8 +24,8 @@ pub(crate) fn close<'a>(
     opened: &mut VecDeque<Open<'a>>,
     rest: &'a [u8],
 ) -> Option<(usize, &'a [u8])>
-    ensures goes { IfSome result (λ r. (deep : Bool) (at : ℕ) →
-        Goes deep mode opened.old.items rest.now at opened.new.items r.1.now (at + r.0)) }
+    ensures goes { IfSome result (λ r. (scope : Scope) (at : ℕ) →
+        Goes scope mode opened.old.items rest.now at opened.new.items r.1.now (at + r.0)) }
     ensures passed { IfSome result (λ r. (passed : List ℕ) × (length passed ≡ r.0)
         × (rest.now ++ behind_all opened.old.items
         ≡ passed ++ (r.1.now ++ behind_all opened.new.items))) }

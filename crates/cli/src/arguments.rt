@@ -1,0 +1,92 @@
+//! The arguments of a program: options, and files.
+ghost use Rattle.std.specs.Prelude.{◌≡◌, ◌∷◌, [], map, string_bytes, false, IfSome, IfNone};
+ghost use Rattle.cli.specs.Arguments.{is_option, Comes, IsEnd};
+
+/// An argument of a program.
+#[derive(Clone, Copy, Debug)]
+pub enum Argument<'a> {
+    /// A word that begins with `-` and goes on.
+    Option(&'a str),
+
+    /// Any other word, and each word after `--`.
+    File(&'a str),
+}
+
+/// Goes over the words of a command line.
+#[derive(Clone, Copy, Debug)]
+pub struct Arguments<'a> {
+    /// The words that are left.
+    words: &'a [String],
+
+    /// Whether `--` was passed.
+    only_files: bool,
+}
+
+impl<'a> Arguments<'a> {
+    /// Begins with the first word, which is behind the name of the program.
+    pub fn new(words: &'a [String]) -> Arguments<'a>
+        ensures words { result.words ≡ words.entry }
+        ensures options { result.only_files ≡ false }
+    {
+        Arguments {
+            words,
+            only_files: false,
+        }
+    }
+
+    /// Returns the next word.
+    fn next_word(&mut self) -> Option<&'a str>
+        ensures some { IfSome result (λ w. map string_bytes self.old.words.now
+            ≡ w.now ∷ map string_bytes self.new.words.now) }
+        ensures none { IfNone result (map string_bytes self.old.words.now ≡ []) }
+        ensures same { self.new.only_files ≡ self.old.only_files }
+    {
+        let [word, words @ ..] = self.words else {
+            return None;
+        };
+        self.words = words;
+        Some(word.as_str())
+    }
+
+    /// Returns the next argument, or `None` behind the last.
+    pub fn next(&mut self) -> Option<Argument<'a>>
+        ensures comes { IfSome result (Comes
+            self.old.only_files (map string_bytes self.old.words.now)
+            self.new.only_files (map string_bytes self.new.words.now)) }
+        ensures none { IfNone result
+            (IsEnd self.old.only_files (map string_bytes self.old.words.now)) }
+    {
+        let word = self.next_word()?;
+        if self.only_files || !is_option(word) {
+            return Some(Argument::File(word));
+        }
+        if word == "--" {
+            self.only_files = true;
+            return match self.next_word() {
+                Some(file) => Some(Argument::File(file)),
+                None => None,
+            };
+        }
+        Some(Argument::Option(word))
+    }
+
+    /// Returns the value of the option that was returned last: the word behind it.
+    pub fn value(&mut self) -> Option<&'a str>
+        ensures some { IfSome result (λ w. map string_bytes self.old.words.now
+            ≡ w.now ∷ map string_bytes self.new.words.now) }
+        ensures none { IfNone result (map string_bytes self.old.words.now ≡ []) }
+        ensures same { self.new.only_files ≡ self.old.only_files }
+    {
+        self.next_word()
+    }
+}
+
+/// Returns whether a word is an option: whether it begins with `-` and goes on.
+fn is_option(word: &str) -> bool
+    ensures { result ≡ is_option word.now }
+{
+    match word.as_bytes() {
+        [b'-', _, ..] => true,
+        _ => false,
+    }
+}

@@ -1,0 +1,46 @@
+//! Reads the files that are named on a command line.
+use std::io::Read;
+use std::{fs, io};
+
+/// The name for standard input.
+pub const STDIN: &str = "-";
+
+/// What was read of a file.
+#[derive(Debug, Drop)]
+pub struct Input<'a> {
+    /// The name of the file, or `-` for standard input.
+    pub name: &'a str,
+
+    /// The octets of the file, or the error of the system.
+    pub octets: io::Result<Vec<u8>>,
+}
+
+impl Input<'_> {
+    /// Returns what messages call the file.
+    pub fn title(&self) -> &str {
+        if self.name == STDIN {
+            "standard input"
+        } else {
+            self.name
+        }
+    }
+}
+
+/// Reads a file, or standard input to its end if the name is `-`.
+pub fn read<'a>(rt: &HostRuntime, name: &'a str) -> Input<'a> {
+    if name != STDIN {
+        return Input {
+            name,
+            octets: fs::read(rt, name),
+        };
+    }
+    let mut octets = Vec::new(rt.alloc());
+    let read = rt.stdin().read_to_end(&mut octets);
+    Input {
+        name,
+        octets: match read {
+            Ok(_) => Ok(octets),
+            Err(error) => Err(error),
+        },
+    }
+}
