@@ -1,3 +1,4 @@
 pub mod Arguments
+pub mod Armor
 pub mod Shown
 pub mod Pem
