@@ -1,6 +1,7 @@
 //! Blocks of text (RFC 7468, 3), among any octets.
 ghost use Rattle.std.specs.Prelude.{◌≡◌, ◌<◌, ◌≤◌, ◌++◌, length, IfSome, IfOk};
-ghost use Rattle.cli.specs.Pem.{MayBegin, IsBodyOf};
+ghost use Rattle.std.specs.Prelude.{MatchResult};
+ghost use Rattle.cli.specs.Pem.{MayBegin, IsBodyOf, Stands};
 
 /// What a block begins with.
 const BEGIN: &[u8] = b"-----BEGIN ";
@@ -108,6 +109,9 @@ fn body_of<'a>(label: &[u8], octets: &'a [u8]) -> Result<(&'a [u8], &'a [u8]), U
 fn block_at<'a>(label: &'a [u8], octets: &'a [u8]) -> Block<'a>
     ensures less { length result.rest.now ≤ length octets.now }
     ensures label { result.label.now ≡ label.now }
+    ensures body { MatchResult result.body
+        (λ body. IsBodyOf label.now octets.now body.now result.rest.now)
+        (λ e. octets.now ≡ result.rest.now) }
 {
     match body_of(label, octets) {
         Ok((body, rest)) => Block {
@@ -135,6 +139,7 @@ pub fn header_in(body: &[u8]) -> Option<&[u8]> {
 pub fn next_block(octets: &[u8]) -> Option<Block<'_>>
     ensures begins { IfSome result (λ b. MayBegin octets.now) }
     ensures less { IfSome result (λ b. length b.rest.now < length octets.now) }
+    ensures stands { IfSome result (λ b. Stands octets.now b) }
 {
     let mut rest = octets;
     while let Some((_, behind)) = split_around(rest, BEGIN) {
