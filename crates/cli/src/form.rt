@@ -1,5 +1,7 @@
 //! The forms of input: octets, and texts that spell them.
-ghost use Rattle.std.specs.Prelude.{◌≡◌, IfOk};
+ghost use Rattle.std.specs.Prelude.{◌≡◌, IfOk, IfErr};
+ghost use Rattle.cli.specs.Forms.{IsHex, IsNoHex, IsBase64, IsNoBase64, IsLenient};
+ghost use Rattle.cli.specs.Forms.{dense, is_blank};
 
 use base64::engine::general_purpose::{GeneralPurpose, GeneralPurposeConfig};
 use base64::{DecodeAllocError, alphabet};
@@ -52,24 +54,31 @@ impl From<AllocError> for Misspelled {
 }
 
 /// Returns whether an octet is a space, a tab or an end of a line.
-fn is_blank(octet: u8) -> bool {
+fn is_blank(octet: u8) -> bool
+    ensures { result ≡ is_blank octet }
+{
     matches!(octet, b' ' | 0x09..=0x0D)
 }
 
 /// Returns octets without spaces, tabs and ends of lines.
-fn without_blanks(alloc: Global, octets: &[u8]) -> Result<Vec<u8>, AllocError> {
-    let mut dense = Vec::new(alloc);
-    for octet in octets {
-        if !is_blank(*octet) {
-            dense.push(*octet)?;
-        }
-    }
-    Ok(dense)
+fn without_blanks(alloc: Global, octets: &[u8]) -> Result<Vec<u8>, AllocError>
+    ensures { IfOk result (λ v. v.items ≡ dense octets.now) }
+{
+    octets
+        .iter()
+        .copied()
+        .filter(|octet| !is_blank(*octet))
+        .collect(alloc)
 }
 
 /// Returns the octets that hexadecimal digits spell, between which there may be blanks.
-pub fn from_hex(alloc: Global, text: &[u8]) -> Result<Vec<u8>, Misspelled> {
-    let digits = without_blanks(alloc, text)?;
+pub fn from_hex(alloc: Global, text: &[u8]) -> Result<Vec<u8>, Misspelled>
+    ensures spelled { IfOk result (λ v. IsHex text.now v.items) }
+    ensures misspelled { IfErr result (λ e. e ≡ Misspelled.Form → IsNoHex text.now) }
+{
+    let Ok(digits) = without_blanks(alloc, text) else {
+        return Err(Misspelled::NoMemory);
+    };
     match hex::decode(alloc, digits.as_slice()) {
         Ok(octets) => Ok(octets),
         Err(FromHexError::OutOfMemory) => Err(Misspelled::NoMemory),
@@ -77,15 +86,26 @@ pub fn from_hex(alloc: Global, text: &[u8]) -> Result<Vec<u8>, Misspelled> {
     }
 }
 
+/// Returns the engine for base 64 that ignores the bits that are left of the last octet.
+fn lenient() -> GeneralPurpose
+    ensures { IsLenient result }
+{
+    let config = GeneralPurposeConfig::new().with_decode_allow_trailing_bits(true);
+    GeneralPurpose::new(&alphabet::STANDARD, config)
+}
+
 /// Returns the octets that a text in base 64 spells, in which there may be blanks. The bits that
 /// are left of its last octet need not be zero.
-pub fn from_base64(alloc: Global, text: &[u8]) -> Result<Vec<u8>, Misspelled> {
-    let digits = without_blanks(alloc, text)?;
-    let config = GeneralPurposeConfig::new().with_decode_allow_trailing_bits(true);
-    let engine = GeneralPurpose::new(&alphabet::STANDARD, config);
-    match engine.decode(alloc, digits.as_slice()) {
+pub fn from_base64(alloc: Global, text: &[u8]) -> Result<Vec<u8>, Misspelled>
+    ensures spelled { IfOk result (λ v. IsBase64 text.now v.items) }
+    ensures misspelled { IfErr result (λ e. e ≡ Misspelled.Form → IsNoBase64 text.now) }
+{
+    let Ok(digits) = without_blanks(alloc, text) else {
+        return Err(Misspelled::NoMemory);
+    };
+    match lenient().decode(alloc, digits.as_slice()) {
         Ok(octets) => Ok(octets),
         Err(DecodeAllocError::OutOfMemory) => Err(Misspelled::NoMemory),
-        Err(_) => Err(Misspelled::Form),
+        Err(DecodeAllocError::DecodeError(_)) => Err(Misspelled::Form),
     }
 }
