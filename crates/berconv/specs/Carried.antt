@@ -1,11 +1,11 @@
 -- The octets that an input carries: itself, what it spells, or what its blocks of text have (RFC 7468).
-use Rattle.std.specs.Prelude.{◌≡◌, ◌⊎◌, ℕ, List, [], ◌∷◌, ◌++◌, Option, Some, None, Ok, ⊤}
+use Rattle.std.specs.Prelude.{◌≡◌, ◌⊎◌, ℕ, List, [], ◌∷◌, Option, Some, None, Ok, ⊤}
 use denote.Ref.{Bor}
 use Rattle.bcder.specs.declared.mode.Mode.{Mode}
 use Rattle.cli.specs.declared.form.Form.{Form}
 use Rattle.cli.specs.declared.form.Form.TheVariants as form
 use Rattle.cli.specs.declared.pem.Block.{Block}
-use Rattle.cli.specs.Forms.{IsHex, IsBase64, IsNoHex, IsNoBase64}
+use Rattle.cli.specs.Forms.{IsHex, IsBase64, IsNoHex}
 use Rattle.cli.specs.Pem.{MayBegin, Stands}
 use Rattle.encodings.specs.Values.{AreNoValues}
 use Rattle.berconv.specs.declared.run.Spelled.{Spelled}

@@ -12,3 +12,7 @@ mode_word Der = codes "der"
 -- the word that came next names the rules
 abbrev pub IsRules : Arguments → Arguments → Mode → Type 0
 IsRules old new mode = map string_bytes old.words.now ≡ mode_word mode ∷ map string_bytes new.words.now
+
+-- a word was taken
+abbrev pub IsTaken : Arguments → Arguments → Type 0
+IsTaken old new = (w : List ℕ) × (map string_bytes old.words.now ≡ w ∷ map string_bytes new.words.now)

@@ -1,8 +1,8 @@
 //! Reads the arguments.
-ghost use Rattle.std.specs.Prelude.{◌≡◌, IfOk, true};
+ghost use Rattle.std.specs.Prelude.{◌≡◌, IfOk, OnOk, true};
 ghost use Rattle.bcder.specs.declared.mode.Mode.{Mode as TheMode};
 ghost use Rattle.cli.specs.Armor.{is_label};
-ghost use Rattle.berconv.specs.Words.{IsRules};
+ghost use Rattle.berconv.specs.Words.{IsRules, IsTaken};
 
 use bcder::Mode;
 use cli::arguments::{Argument, Arguments};
@@ -74,7 +74,8 @@ impl fmt::Display for Misuse<'_> {
 
 /// Returns the rules that follow an option.
 fn rules<'a>(option: &'a str, args: &mut Arguments<'a>) -> Result<Mode, Misuse<'a>>
-    ensures { IfOk result (IsRules args.old args.new) }
+    ensures rules { IfOk result (IsRules args.old args.new) }
+    ensures taken { OnOk result (IsTaken args.old args.new) }
 {
     match args.value() {
         Some("ber") => Ok(Mode::Ber),
@@ -85,7 +86,9 @@ fn rules<'a>(option: &'a str, args: &mut Arguments<'a>) -> Result<Mode, Misuse<'
 }
 
 /// Returns the form that follows the option for it.
-fn form<'a>(args: &mut Arguments<'a>) -> Result<Form, Misuse<'a>> {
+fn form<'a>(args: &mut Arguments<'a>) -> Result<Form, Misuse<'a>>
+    ensures { OnOk result (IsTaken args.old args.new) }
+{
     let Some(word) = args.value() else {
         return Err(Misuse::Form);
     };
@@ -97,7 +100,8 @@ fn form<'a>(args: &mut Arguments<'a>) -> Result<Form, Misuse<'a>> {
 
 /// Returns the label that follows the option for it.
 fn label<'a>(args: &mut Arguments<'a>) -> Result<&'a str, Misuse<'a>>
-    ensures { IfOk result (λ label. is_label label.now ≡ true) }
+    ensures label { IfOk result (λ label. is_label label.now ≡ true) }
+    ensures taken { OnOk result (IsTaken args.old args.new) }
 {
     let Some(word) = args.value() else {
         return Err(Misuse::Label);

@@ -1,5 +1,5 @@
 //! Converts what was read.
-ghost use Rattle.std.specs.Prelude.{◌≡◌, ◌++◌, ◌×◌, ◌⊎◌, [], ℕ, List, IsTrue, OnOk, OnErr, IfOk, IfErr};
+ghost use Rattle.std.specs.Prelude.{◌≡◌, ◌++◌, [], ℕ, List, Ok, IsTrue, OnOk, OnErr, IfOk, IfErr};
 ghost use Rattle.std.specs.Io.KnownBytes.{Appends};
 ghost use Rattle.bcder.specs.calls.Target.{AppendsFront};
 ghost use Rattle.encodings.specs.Conversion.{IsConversion};
@@ -284,11 +284,7 @@ fn spelled_in(
 }
 
 /// Returns what is written of an input without blocks.
-fn converted_alone(
-    alloc: Global,
-    request: Request<'_>,
-    octets: &[u8],
-) -> Result<Vec<u8>, Refusal>
+fn converted_alone(alloc: Global, request: Request<'_>, octets: &[u8]) -> Result<Vec<u8>, Refusal>
     ensures converted { IfOk result (λ text. (part : List ℕ)
         × IsWhole request.entry.from request.entry.form octets.now part
         × AppendsConversion request.entry part [] text.items) }

@@ -1,5 +1,5 @@
 -- Texts that spell octets.
-use Rattle.std.specs.Prelude.{◌≡◌, ℕ, Bool, true, false, not, nat_eq, nat_le, ◌&&◌, ◌||◌, List, Ok, Err, Result}
+use Rattle.std.specs.Prelude.{◌≡◌, ℕ, Bool, true, not, nat_eq, nat_le, ◌&&◌, ◌||◌, List, Ok, Err}
 use Rattle.std.specs.List.{filter}
 use Rattle.hex.specs.Hex.{decode_of as hex_of}
 use Rattle.hex.specs.declared.FromHexError.{FromHexError}
