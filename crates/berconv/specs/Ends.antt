@@ -1,14 +1,16 @@
 -- How a run ends over octets that were read.
-use Rattle.std.specs.Prelude.{◌≡◌, ◌⊎◌, ℕ, List, [], ◌∷◌, ◌++◌, Option, Some, None, MatchResult, codes, ⊤}
+use Rattle.std.specs.Prelude.{◌≡◌, ◌⊎◌, ℕ, Bool, true, false, List, [], ◌∷◌, ◌++◌, Option, Some, None, MatchResult, codes, ⊤}
 use Rattle.std.specs.Io.KnownBytes.{Appends, Keeps}
 use denote.Ref.{Bor}
 use Rattle.bcder.specs.declared.mode.Mode.{Mode}
+use Rattle.bcder.specs.declared.mode.Mode.TheVariants.{Ber, Cer, Der}
 use Rattle.bcder.specs.calls.Captured.{AreWhole}
 use Rattle.bcder.specs.calls.Target.{AppendsFront}
 use Rattle.cli.specs.declared.files.Input.{Input}
 use Rattle.cli.specs.Armor.{block_of}
 use Rattle.encodings.specs.declared.checked.Checked.{Checked}
 use Rattle.encodings.specs.Conversion.{IsConversion}
+use Rattle.encodings.specs.Sets.{IsSorting}
 use Rattle.encodings.specs.Values.{AreNoValues, StopsAfter}
 use Rattle.berconv.specs.declared.refusal.Refusal.{Refusal}
 use Rattle.berconv.specs.declared.refusal.Refusal.TheVariants.{NoValues, NotConverted, NoMemory, NoBlock, Unended, OtherLabel, Headers, NotBase64, Misspelled}
@@ -32,9 +34,20 @@ abbrev pub text_of : Option (Bor (List ℕ)) → List ℕ → List ℕ
 text_of None w = w
 text_of (Some label) w = block_of label.now w
 
+-- values in CER and DER with those inside each SET in order, if that is wanted
+abbrev pub IsInOrder : Bool → Mode → List ℕ → List ℕ → Type 0
+IsInOrder false to v w = w ≡ v
+IsInOrder true Ber v w = w ≡ v
+IsInOrder true Cer v w = IsSorting Cer v w
+IsInOrder true Der v w = IsSorting Der v w
+
+-- octets in other rules
+abbrev pub IsConverted : Request → List ℕ → List ℕ → Type 0
+IsConverted r octets w = (v : List ℕ) × IsConversion r.from r.to octets v × IsInOrder r.sorts r.to v w
+
 -- what is written of octets was appended
 abbrev pub AppendsConversion : Request → List ℕ → List ℕ → List ℕ → Type 0
-AppendsConversion r octets old new = (w : List ℕ) × IsConversion r.from r.to octets w × (new ≡ old ++ text_of r.pem w)
+AppendsConversion r octets old new = (w : List ℕ) × IsConverted r octets w × (new ≡ old ++ text_of r.pem w)
 
 -- the same of each of these, one after the other
 abbrev pub AppendsConversions : Request → List (List ℕ) → List ℕ → List ℕ → Type 0

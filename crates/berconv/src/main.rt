@@ -26,6 +26,7 @@ Converts values between BER, CER and DER.
   --from RULES   the encoding rules that the octets have to follow: ber, cer or
                  der; else those of BER
   --to RULES     the rules in which the values are written; else those of DER
+  --sort-sets    put the values inside each SET in order, as CER and DER want it
   --input FORM   the form of the file: hex, base64, pem or der (octets); else it
                  is found out. Each block of a PEM file is converted
   --pem LABEL    write PEM blocks with this label, one for each that is read;

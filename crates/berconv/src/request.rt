@@ -21,6 +21,9 @@ pub(crate) struct Request<'a> {
     /// The rules in which the values are written.
     pub to: Mode,
 
+    /// Whether the values inside each SET are put in order, if the rules have one.
+    pub sorts: bool,
+
     /// The form of the file, or `None` if it is to be found out.
     pub form: Option<Form>,
 
@@ -53,6 +56,9 @@ pub(crate) enum Misuse<'a> {
     /// No rules follow this option.
     Rules(&'a str),
 
+    /// The values of a SET have no order in the rules that are named.
+    Sorting,
+
     /// No form follows the option for it.
     Form,
 
@@ -66,6 +72,7 @@ impl fmt::Display for Misuse<'_> {
             Misuse::Option(word) => write!(f, "{}: no such option", Shown(word)),
             Misuse::SecondFile(word) => write!(f, "{}: a second file", Shown(word)),
             Misuse::Rules(option) => write!(f, "{option}: ber, cer or der has to follow"),
+            Misuse::Sorting => write!(f, "--sort-sets: in BER a SET has no order"),
             Misuse::Form => write!(f, "--input: hex, base64, pem or der has to follow"),
             Misuse::Label => write!(f, "--pem: a label has to follow"),
         }
@@ -121,6 +128,7 @@ pub(crate) fn read(words: &[String]) -> Result<Asked<'_>, Misuse<'_>> {
     let mut request = Request {
         from: Mode::Ber,
         to: Mode::Der,
+        sorts: false,
         form: None,
         pem: None,
     };
@@ -138,12 +146,16 @@ pub(crate) fn read(words: &[String]) -> Result<Asked<'_>, Misuse<'_>> {
         match option {
             "--from" => request.from = rules(option, &mut args)?,
             "--to" => request.to = rules(option, &mut args)?,
+            "--sort-sets" => request.sorts = true,
             "--input" => request.form = Some(form(&mut args)?),
             "--pem" => request.pem = Some(label(&mut args)?),
             "-h" | "--help" => return Ok(Asked::Help),
             "--version" => return Ok(Asked::Version),
             _ => return Err(Misuse::Option(option)),
         }
+    }
+    if request.sorts && request.to == Mode::Ber {
+        return Err(Misuse::Sorting);
     }
     Ok(Asked::Conversion(request, file.unwrap_or(STDIN)))
 }

@@ -7,7 +7,7 @@ ghost use Rattle.encodings.specs.Values.{AreNoValues};
 ghost use Rattle.berconv.specs.Carried.{HasBlocks, IsBlockOf, IsFound, IsSpelling, IsWhole};
 ghost use Rattle.berconv.specs.Carried.{MayHaveBlocks};
 ghost use Rattle.berconv.specs.Ends.{AppendsConversion, AppendsConversions, Ends, Puts, Runs};
-ghost use Rattle.berconv.specs.Ends.{IsRefused, IsRefusedIn, IsUnconverted, IsUnreadable, text_of};
+ghost use Rattle.berconv.specs.Ends.{IsRefused, IsRefusedIn, IsUnconverted, IsInOrder, IsUnreadable, text_of};
 
 use crate::refusal::{Refusal, refuse, tell};
 use crate::request::Request;
@@ -21,6 +21,7 @@ use cli::pem::{Block, Unended, header_in, next_block};
 use cli::shown::Shown;
 use encodings::checked::Checked;
 use encodings::convert::convert;
+use encodings::sets::sort_sets;
 use encodings::status::{ABSENT, DONE, NO_MEMORY, NOT_CONVERTED, TOO_SMALL};
 use encodings::values::{are_values, check};
 use std::alloc::{AllocError, Global};
@@ -76,6 +77,19 @@ fn refusal_of(alloc: Global, from: Mode, octets: &[u8]) -> Refusal
     match check(alloc, from, octets, &mut checked) {
         NO_MEMORY => Refusal::NoMemory,
         status => Refusal::NoValues(checked.at, status),
+    }
+}
+
+/// Puts the values inside each SET in order, if that is wanted, and the rules have one.
+fn sort(alloc: Global, sorts: bool, to: Mode, values: &mut [u8]) -> Result<(), NoMemory>
+    ensures { OnOk result (IsInOrder sorts to values.old values.new) }
+{
+    if !sorts || to == Mode::Ber {
+        return Ok(());
+    }
+    match sort_sets(alloc, to, values) {
+        DONE => Ok(()),
+        _ => Err(NoMemory),
     }
 }
 
@@ -140,7 +154,10 @@ fn append_converted(
     ensures refused { IfErr result
         (IsRefused request.entry.from request.entry.to octets.now) }
 {
-    let values = converted(alloc, request.from, request.to, octets)?;
+    let mut values = converted(alloc, request.from, request.to, octets)?;
+    if sort(alloc, request.sorts, request.to, &mut values).is_err() {
+        return Err(Refusal::NoMemory);
+    }
     match append(request.pem, &values, text) {
         Ok(()) => Ok(()),
         Err(AllocError) => Err(Refusal::NoMemory),
