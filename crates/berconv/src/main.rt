@@ -2,7 +2,7 @@
 //!
 //! `berconv [OPTION ..] [FILE]` reads the file, or standard input, as values in the encoding rules
 //! that `--from` names, else in BER. It writes them on standard output in those that `--to` names,
-//! else in DER. `RULES` is `ber`, `cer` or `der`.
+//! else in DER.
 #![tactic(auto)]
 
 mod refusal;
