@@ -8,6 +8,7 @@ ghost use Rattle.berconv.specs.Carried.{HasBlocks, IsBlockOf, IsFound, IsSpellin
 ghost use Rattle.berconv.specs.Carried.{MayHaveBlocks};
 ghost use Rattle.berconv.specs.Ends.{AppendsConversion, AppendsConversions, Ends, Puts, Runs};
 ghost use Rattle.berconv.specs.Ends.{IsRefused, IsRefusedIn, IsUnconverted, IsInOrder, IsUnreadable, text_of};
+ghost use Rattle.berconv.specs.Ends.{IsConverted};
 
 use crate::refusal::{Refusal, refuse, tell};
 use crate::request::Request;
@@ -84,7 +85,10 @@ fn refusal_of(alloc: Global, from: Mode, octets: &[u8]) -> Refusal
 fn sort(alloc: Global, sorts: bool, to: Mode, values: &mut [u8]) -> Result<(), NoMemory>
     ensures { OnOk result (IsInOrder sorts to values.old values.new) }
 {
-    if !sorts || to == Mode::Ber {
+    if !sorts {
+        return Ok(());
+    }
+    if to == Mode::Ber {
         return Ok(());
     }
     match sort_sets(alloc, to, values) {
@@ -132,6 +136,19 @@ fn converted(alloc: Global, from: Mode, to: Mode, octets: &[u8]) -> Result<Vec<u
     }
 }
 
+/// Returns values in other rules, with those inside each SET in order if that is wanted.
+fn in_order(alloc: Global, request: Request<'_>, octets: &[u8]) -> Result<Vec<u8>, Refusal>
+    ensures converted { IfOk result (λ v. IsConverted request.entry octets.now v.items) }
+    ensures refused { IfErr result
+        (IsRefused request.entry.from request.entry.to octets.now) }
+{
+    let mut values = converted(alloc, request.from, request.to, octets)?;
+    match sort(alloc, request.sorts, request.to, &mut values) {
+        Ok(()) => Ok(values),
+        Err(NoMemory) => Err(Refusal::NoMemory),
+    }
+}
+
 /// Appends octets as they are, or as a block of text with a label.
 fn append(pem: Option<&str>, octets: &[u8], text: &mut Vec<u8>) -> Result<(), AllocError>
     ensures { OnOk result (text.new.items ≡ text.old.items ++ text_of pem.entry octets.now) }
@@ -154,10 +171,7 @@ fn append_converted(
     ensures refused { IfErr result
         (IsRefused request.entry.from request.entry.to octets.now) }
 {
-    let mut values = converted(alloc, request.from, request.to, octets)?;
-    if sort(alloc, request.sorts, request.to, &mut values).is_err() {
-        return Err(Refusal::NoMemory);
-    }
+    let values = in_order(alloc, request, octets)?;
     match append(request.pem, &values, text) {
         Ok(()) => Ok(()),
         Err(AllocError) => Err(Refusal::NoMemory),

@@ -303,11 +303,14 @@ fn sorted(alloc: Global, mode: Mode, octets: &[u8]) -> Result<Vec<u8>, NoMemory>
 /// The status is `DONE`, `ABSENT` if the octets aren't values, or `NO_MEMORY`. Nothing is written
 /// unless it is `DONE`.
 ///
+/// Octets don't tell types apart: values with several tags in a SET OF are ordered as in a SET, and
+/// in CER an untagged CHOICE in a SET has the place of its own tag.
+///
 /// The values of a SET are sorted, and copied if there are two or more, so that `n` octets of `d`
-/// SETs inside one another take about `n * (d + log n)` steps at most.
+/// SETs inside one another take about `n * (d + log n)` steps.
 ///
 /// ```text
-/// sort_sets(alloc, Mode::Der, &mut [0x31, 4, 5, 0, 1, 0])   // see the tests of `berconv`
+/// sort_sets(alloc, Mode::Der, &mut octets)   // 31 06 020102 020101 becomes 31 06 020101 020102
 /// ```
 pub fn sort_sets(alloc: Global, mode: Mode, octets: &mut [u8]) -> u8
     requires { mode ≢ Ber }
