@@ -1,23 +1,22 @@
 -- One step of passing and copying values.
-use Rattle.std.proofs.Common.{◌≡◌, ◌≢◌, ℕ, ◌+◌, ◌-◌, ◌*◌, ◌<◌, ◌≤◌, Bool, true, false, List, [], ◌∷◌, ◌++◌, length, take, drop, map, reverse, refl, ap, sym, ◌∙◌}
-use Rattle.std.proofs.Common.{subst, append_assoc, arith, Some, None, option_map, slice_get}
+use Rattle.std.proofs.Common.{◌≡◌, ◌≢◌, ℕ, ◌+◌, ◌-◌, ◌≤◌, Bool, true, false, List, [], ◌∷◌, ◌++◌, length, take, reverse, refl, ap, sym, ◌∙◌}
+use Rattle.std.proofs.Common.{subst, append_assoc, arith, Some, None, slice_get}
 use Rattle.std.proofs.lemmas.List.{length-append, append-nil, reverse-append}
-use Rattle.std.proofs.Math.Seq.{drop-append_seam, take-append_seam}
+use Rattle.std.proofs.Math.Seq.{take-append_seam}
 use Rattle.bcder.specs.declared.mode.Mode.{Mode}
 use Rattle.bcder.specs.declared.mode.Mode.TheVariants.{Ber}
-use Rattle.bcder.specs.x690.Encoding.{IsHeader, IsEncoding}
+use Rattle.bcder.specs.x690.Encoding.{IsHeader}
 use Rattle.bcder.specs.x690.Identifier.{AreOctets, Tag}
-use Rattle.bcder.specs.x690.Tree.{Tree, primitive}
+use Rattle.bcder.specs.x690.Tree.{primitive}
 use Rattle.bcder.specs.laws.Complete.{header_size}
 use Rattle.bcder.specs.laws.Sound.{none_is, some_inj, AreOctets-take}
 use Rattle.bcder.specs.laws.Stands.{AreOctets-after}
 use Rattle.bcder.specs.calls.ContentsLen.{length_of}
 use Rattle.encodings.specs.declared.sets.Copied.{Copied}
-use Rattle.encodings.specs.declared.sets.Element.{Element}
 use Rattle.encodings.specs.declared.sets.Enclosing.{Enclosing}
 use Rattle.encodings.specs.Open.{Open, to_come}
 use Rattle.encodings.specs.Pieces.{BeginsPiece, of_definite, of_indefinite}
-use Rattle.encodings.specs.Sorting.{Pair, octets_of, AreMarks, AreKeyed, State, behind_open, behind_of, open_length, EndsBy, definite, indefinite}
+use Rattle.encodings.specs.Sorting.{Pair, State, behind_open, behind_of, open_length, EndsBy, definite, indefinite}
 use Rattle.encodings.specs.Sorting.{opens_of, to_do, GoesOver, Enters, passes, opens, Leaves, IsState, IsEnclosing}
 use Rattle.encodings.proofs.Copying.{passed_value, passed_header, passed_end, enclosing}
 use Rattle.encodings.proofs.Reading.{after_front, last_apart}

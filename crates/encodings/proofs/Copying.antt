@@ -1,6 +1,6 @@
 -- Values that are passed and copied, step by step.
-use Rattle.std.proofs.Common.{◌≡◌, ◌≢◌, ℕ, ◌+◌, ◌-◌, ◌*◌, ◌<◌, ◌≤◌, Bool, true, false, List, [], ◌∷◌, ◌++◌, length, take, drop, map, reverse, refl, ap, sym, ◌∙◌}
-use Rattle.std.proofs.Common.{subst, inl, inr, append_assoc, arith, Option, Some, None, option_map}
+use Rattle.std.proofs.Common.{◌≡◌, ◌≢◌, ℕ, ◌+◌, ◌-◌, true, List, [], ◌∷◌, ◌++◌, length, take, drop, reverse, refl, ap, sym, ◌∙◌}
+use Rattle.std.proofs.Common.{subst, inl, inr, append_assoc, arith}
 use Rattle.std.specs.Prelude.{sum_by}
 use Rattle.std.proofs.lemmas.List.{length-append, append-nil}
 use Rattle.std.proofs.Math.Seq.{drop-append_seam, take-append_seam}
@@ -8,9 +8,8 @@ use Rattle.std.proofs.lemmas.List.Sums.{sum_by-cons}
 use Rattle.bcder.specs.declared.mode.Mode.{Mode}
 use Rattle.bcder.specs.declared.mode.Mode.TheVariants.{Ber}
 use Rattle.bcder.specs.x690.Encoding.{IsHeader, IsEncoding, AreEncodings}
-use Rattle.bcder.specs.x690.Identifier.{AreOctets, Tag}
-use Rattle.bcder.specs.x690.Length.{IsEndOfContents}
-use Rattle.bcder.specs.x690.Tree.{Tree, primitive, constructed, Trees, no_trees, ◌∷ₜ◌, ◌+++◌}
+use Rattle.bcder.specs.x690.Identifier.{Tag}
+use Rattle.bcder.specs.x690.Tree.{Tree, constructed, Trees, no_trees, ◌∷ₜ◌, ◌+++◌}
 use Rattle.bcder.specs.laws.Lists.{AreEncodings-join, AreEncodings-one}
 use Rattle.bcder.specs.calls.ContentsLen.{length_of}
 use Rattle.bcder.specs.calls.Valued.{tag_of}
@@ -18,7 +17,7 @@ use Rattle.encodings.specs.declared.sets.Copied.{Copied}
 use Rattle.encodings.specs.declared.sets.Enclosing.{Enclosing}
 use Rattle.encodings.specs.Open.{Open}
 use Rattle.encodings.specs.Sets.{place, is_set, IsSorted, AreSorted, AreArranged, IsSorting}
-use Rattle.encodings.specs.Sorting.{Pair, octets_of, trees_of, AreEncoded, AreMarks, Layer, Holds, State, Inside, Outside, behind_open, behind_of}
+use Rattle.encodings.specs.Sorting.{Pair, octets_of, trees_of, AreEncoded, AreMarks, Layer, Holds, State, behind_open, behind_of}
 use Rattle.encodings.specs.Sorting.{open_length, EndsBy, definite, indefinite, Arranged, IsEnclosing, Leaves}
 use Rattle.encodings.proofs.Arranging.{trees_arranged}
 

@@ -1,5 +1,5 @@
 -- The order of the values inside a SET in CER and DER (ITU-T X.690, 9.3, 10.3, 11.6; X.680, 8.6).
-use Rattle.std.specs.Prelude.{◌≡◌, ℕ, ◌+◌, ◌*◌, ◌<◌, ◌⊎◌, ◌&&◌, ◌==◌, Bool, true, false, ⊤, List, [], ◌∷◌, IsPermutation}
+use Rattle.std.specs.Prelude.{◌≡◌, ℕ, ◌+◌, ◌*◌, ◌<◌, ◌⊎◌, ◌==◌, Bool, true, false, ⊤, List, [], ◌∷◌, IsPermutation}
 use Rattle.bcder.specs.declared.mode.Mode.{Mode}
 use Rattle.bcder.specs.x690.Encoding.{IsEncoding, AreEncodings}
 use Rattle.bcder.specs.x690.Identifier.{Class, universal, application, context_specific, private, Tag}

@@ -1,4 +1,4 @@
-use Rattle.std.proofs.Common.{◌≡◌, ◌++◌, ◌∷◌, [], ◌<◌, ◌≤◌, length, take, drop, get_or, sym, subst, refl, rules}
+use Rattle.std.proofs.Common.{◌≡◌, ◌++◌, ◌∷◌, [], get_or, sym, subst, refl, rules}
 use Rattle.encodings.specs.declared.sets.Copied.{Copied}
 use Rattle.encodings.specs.declared.sets.Element.{Element}
 use Rattle.encodings.proofs.Keying.{Splits, none_split, sizes_at, split_on, splits_all}

@@ -1,4 +1,4 @@
-use Rattle.std.proofs.Common.{◌≡◌, ◌++◌, ◌∷◌, [], ◌+◌, ◌-◌, length, take, option_map, Some, refl, ap, ◌∙◌, subst, arith, rules}
+use Rattle.std.proofs.Common.{◌≡◌, ◌++◌, ◌∷◌, [], ◌+◌, ◌-◌, length, option_map, refl, ap, ◌∙◌, arith, rules}
 use Rattle.bcder.specs.x690.Identifier.{AreOctets}
 use Rattle.encodings.specs.declared.sets.Copied.{Copied}
 use Rattle.encodings.specs.declared.sets.Enclosing.{Enclosing}

@@ -1,4 +1,4 @@
-use Rattle.std.proofs.Common.{◌≡◌, ◌++◌, length, sym, subst, rules}
+use Rattle.std.proofs.Common.{sym, subst}
 use Rattle.encodings.proofs.Keying.{Joins, none_joined, joined_on, joins_all}
 use Rattle.encodings.proofs.sets.joined.Goals as goal
 
