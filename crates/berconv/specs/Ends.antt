@@ -1,43 +1,58 @@
 -- How a run ends over octets that were read.
-use Rattle.std.specs.Prelude.{◌≡◌, ◌⊎◌, ℕ, List, ◌++◌, ◌==◌, if◌then◌else◌, Option, codes, decimal, ⊤}
+use Rattle.std.specs.Prelude.{◌≡◌, ◌⊎◌, ℕ, Bool, true, false, List, [], ◌∷◌, ◌++◌, Option, Some, None, MatchResult, codes, ⊤}
 use Rattle.std.specs.Io.KnownBytes.{Appends, Keeps}
+use denote.Ref.{Bor}
 use Rattle.bcder.specs.declared.mode.Mode.{Mode}
+use Rattle.bcder.specs.declared.mode.Mode.TheVariants.{Ber, Cer, Der}
 use Rattle.bcder.specs.calls.Captured.{AreWhole}
 use Rattle.bcder.specs.calls.Target.{AppendsFront}
+use Rattle.cli.specs.declared.files.Input.{Input}
+use Rattle.cli.specs.Armor.{block_of}
 use Rattle.encodings.specs.declared.checked.Checked.{Checked}
 use Rattle.encodings.specs.Conversion.{IsConversion}
-use Rattle.encodings.specs.Status.{beyond, ended}
+use Rattle.encodings.specs.Sets.{IsSorting}
 use Rattle.encodings.specs.Values.{AreNoValues, StopsAfter}
-use Rattle.berconv.specs.declared.run.Refusal.{Refusal}
-use Rattle.berconv.specs.declared.run.Refusal.TheVariants.{NoValues, NotConverted, NoMemory}
+use Rattle.berconv.specs.declared.refusal.Refusal.{Refusal}
+use Rattle.berconv.specs.declared.refusal.Refusal.TheVariants.{NoValues, NotConverted, NoMemory, NoBlock, Unended, OtherLabel, Headers, NotBase64, Misspelled}
+use Rattle.berconv.specs.declared.request.Request.{Request}
+use Rattle.berconv.specs.declared.status.Status.{Status}
+use Rattle.berconv.specs.declared.status.Status.TheVariants as status
+use Rattle.berconv.specs.Carried.{HasBlocks, MayHaveBlocks, IsWhole}
+use Rattle.berconv.specs.Refusals.{RefusedWith, status_of}
 
--- ---- the messages
+-- the exit status
+abbrev pub code_of : Status → ℕ
+code_of status.Written = 0
+code_of status.Refused = 1
+code_of status.Unread = 2
+code_of status.Failed = 1
 
--- why no value begins
-abbrev pub reason : ℕ → List ℕ
-reason why =
-    if why == beyond then codes "the contents of this value aren't all here"
-    else if why == ended then codes "the octets end before a value does"
-    else codes "no value of these rules begins here, and none ends"
+-- ---- what is written
 
--- no value begins behind so many octets
-abbrev pub place_text : ℕ → ℕ → List ℕ
-place_text at why = codes "berconv: octet " ++ decimal at ++ codes ": " ++ reason why ++ codes "\n"
+-- octets as they are, or as a block of text with a label
+abbrev pub text_of : Option (Bor (List ℕ)) → List ℕ → List ℕ
+text_of None w = w
+text_of (Some label) w = block_of label.now w
 
-abbrev pub unconverted : List ℕ
-unconverted =
-    codes "berconv: a value isn't converted to these rules. Those that aren't:\n"
-    ++ codes "  BOOLEANs that are constructed, or haven't one octet\n"
-    ++ codes "  BIT STRINGs that are constructed or malformed, or have unused bits that aren't zero\n"
-    ++ codes "  to CER, BIT STRINGs of more than 1000 octets\n"
-    ++ codes "  constructed strings with values in them that aren't OCTET STRINGs\n"
-    ++ codes "  to DER, values of 2^32 contents octets or more\n"
+-- values in CER and DER with those inside each SET in order, if that is wanted
+abbrev pub IsInOrder : Bool → Mode → List ℕ → List ℕ → Type 0
+IsInOrder false to v w = w ≡ v
+IsInOrder true Ber v w = w ≡ v
+IsInOrder true Cer v w = IsSorting Cer v w
+IsInOrder true Der v w = IsSorting Der v w
 
-abbrev pub out_of_memory : List ℕ
-out_of_memory = codes "berconv: out of memory\n"
+-- octets in other rules
+abbrev pub IsConverted : Request → List ℕ → List ℕ → Type 0
+IsConverted r octets w = (v : List ℕ) × IsConversion r.from r.to octets v × IsInOrder r.sorts r.to v w
 
-abbrev pub unwritten : List ℕ
-unwritten = codes "berconv: the output can't be written\n"
+-- what is written of octets was appended
+abbrev pub AppendsConversion : Request → List ℕ → List ℕ → List ℕ → Type 0
+AppendsConversion r octets old new = (w : List ℕ) × IsConverted r octets w × (new ≡ old ++ text_of r.pem w)
+
+-- the same of each of these, one after the other
+abbrev pub AppendsConversions : Request → List (List ℕ) → List ℕ → List ℕ → Type 0
+AppendsConversions r [] old new = new ≡ old
+AppendsConversions r (v ∷ vs) old new = (mid : List ℕ) × AppendsConversion r v old mid × AppendsConversions r vs mid new
 
 -- ---- why octets aren't converted
 
@@ -46,24 +61,63 @@ abbrev pub IsRefused : Mode → Mode → List ℕ → Refusal → Type 0
 IsRefused from to octets (NoValues at why) = AreNoValues from octets × ((c : Checked) × (c.at ≡ at) × StopsAfter from octets c why)
 IsRefused from to octets NotConverted = AreWhole from octets × ((w : List ℕ) → IsConversion from to octets w → ⊥)
 IsRefused from to octets NoMemory = ⊤
+IsRefused from to octets NoBlock = ⊥
+IsRefused from to octets Unended = ⊥
+IsRefused from to octets OtherLabel = ⊥
+IsRefused from to octets Headers = ⊥
+IsRefused from to octets NotBase64 = ⊥
+IsRefused from to octets Misspelled = ⊥
 
--- the message of a refusal, or a prefix of it, was written; or that memory ran out for it
-abbrev pub RefusedWith : Refusal → Option (List ℕ) → Option (List ℕ) → Type 0
-RefusedWith (NoValues at why) old new = AppendsFront old new (place_text at why) ⊎ AppendsFront old new out_of_memory
-RefusedWith NotConverted old new = AppendsFront old new unconverted
-RefusedWith NoMemory old new = AppendsFront old new out_of_memory
+-- or no octets were found in the input
+abbrev pub IsUnreadable : Refusal → Type 0
+IsUnreadable (NoValues at why) = ⊥
+IsUnreadable NotConverted = ⊥
+IsUnreadable NoMemory = ⊤
+IsUnreadable NoBlock = ⊤
+IsUnreadable Unended = ⊤
+IsUnreadable OtherLabel = ⊤
+IsUnreadable Headers = ⊤
+IsUnreadable NotBase64 = ⊤
+IsUnreadable Misspelled = ⊤
+
+-- no octets were found, or those that P says, and they are refused
+abbrev pub IsRefusedIn : Request → (List ℕ → Type 0) → Refusal → Type 0
+IsRefusedIn r P e = IsUnreadable e ⊎ ((v : List ℕ) × P v × IsRefused r.from r.to v e)
+
+-- the same of a text with blocks, one of which is refused
+abbrev pub IsUnconverted : Request → List ℕ → Refusal → Type 0
+IsUnconverted r text e =
+    IsUnreadable e
+    ⊎ ((vs : List (List ℕ)) × (v : List ℕ) × HasBlocks text (vs ++ v ∷ []) × IsRefused r.from r.to v e)
 
 -- ---- runs
 
 -- octets were written, or a prefix of them before the target failed, which was told
-pub data Puts (w : List ℕ) (out_old out_new err_old err_new : Option (List ℕ)) (status : ℕ) : Type 0 where
-  all : status ≡ 0 → Appends out_old out_new w → Keeps err_old err_new → Puts w out_old out_new err_old err_new status
-  in_part : status ≡ 2 → AppendsFront out_old out_new w → AppendsFront err_old err_new unwritten
-      → Puts w out_old out_new err_old err_new status
+pub data Puts (w : List ℕ) (out_old out_new err_old err_new : Option (List ℕ)) (s : Status) : Type 0 where
+  all : s ≡ status.Written → Appends out_old out_new w → Keeps err_old err_new → Puts w out_old out_new err_old err_new s
+  in_part : s ≡ status.Failed → AppendsFront out_old out_new w → AppendsFront err_old err_new (codes "berconv: the output can't be written\n")
+      → Puts w out_old out_new err_old err_new s
 
--- the octets were converted, and the conversion was written if the status is 0; or they weren't, it was told why, and nothing was written
-pub data Ends (from to : Mode) (octets : List ℕ) (out_old out_new err_old err_new : Option (List ℕ)) (status : ℕ) : Type 0 where
-  converted : (w : List ℕ) → IsConversion from to octets w → Puts w out_old out_new err_old err_new status
-      → Ends from to octets out_old out_new err_old err_new status
-  refused : status ≡ 1 → (r : Refusal) → IsRefused from to octets r → Keeps out_old out_new → RefusedWith r err_old err_new
-      → Ends from to octets out_old out_new err_old err_new status
+-- nothing was written, and it was told why
+pub record Refuses (r : Refusal) (out_old out_new err_old err_new : Option (List ℕ)) (s : Status) : Type 0 where
+  pub status : s ≡ status_of r
+  pub nothing : Keeps out_old out_new
+  pub block : ℕ
+  pub told : RefusedWith block r err_old err_new
+
+-- the octets of the blocks were converted, or those that the input is or spells, and what is written of them was put; or some are
+-- refused, and nothing was
+pub data Ends (r : Request) (input : List ℕ) (out_old out_new err_old err_new : Option (List ℕ)) (s : Status) : Type 0 where
+  in_blocks : MayHaveBlocks r.form input → (vs : List (List ℕ)) → HasBlocks input vs → (text : List ℕ) → AppendsConversions r vs [] text
+      → Puts text out_old out_new err_old err_new s → Ends r input out_old out_new err_old err_new s
+  alone : (v : List ℕ) → IsWhole r.from r.form input v → (text : List ℕ) → AppendsConversion r v [] text
+      → Puts text out_old out_new err_old err_new s → Ends r input out_old out_new err_old err_new s
+  no_blocks : MayHaveBlocks r.form input → (e : Refusal) → IsUnconverted r input e → Refuses e out_old out_new err_old err_new s
+      → Ends r input out_old out_new err_old err_new s
+  refused : (e : Refusal) → IsRefusedIn r (IsWhole r.from r.form input) e → Refuses e out_old out_new err_old err_new s
+      → Ends r input out_old out_new err_old err_new s
+
+-- a file was read, and it ended so; or it wasn't, and nothing was written
+abbrev pub Runs : Request → Input → Option (List ℕ) → Option (List ℕ) → Option (List ℕ) → Option (List ℕ) → Status → Type 0
+Runs r input out_old out_new err_old err_new s = MatchResult input.octets
+    (λ v. Ends r v.items out_old out_new err_old err_new s) (λ e. (s ≡ status.Unread) × Keeps out_old out_new)

@@ -1,2 +1,4 @@
 pub mod Words
+pub mod Carried
+pub mod Refusals
 pub mod Ends

@@ -1,46 +1,46 @@
 //! Converts values between BER, CER and DER (X.690, 8 to 11).
 //!
-//! `berconv [--from RULES] [--to RULES] [FILE]` reads the file, or standard input, as values in the
-//! encoding rules that `--from` names, else in BER. It writes them on standard output in those that
-//! `--to` names, else in DER. `RULES` is `ber`, `cer` or `der`.
+//! `berconv [OPTION ..] [FILE]` reads the file, or standard input, as values in the encoding rules
+//! that `--from` names, else in BER. It writes them on standard output in those that `--to` names,
+//! else in DER.
 #![tactic(auto)]
 
+mod refusal;
 mod request;
 mod run;
+mod status;
 
-use crate::request::Asked;
-use std::io::{ErrorKind, Read};
+use crate::request::{Asked, Request};
 use std::process::ExitCode;
-use std::{env, fs, io};
+use std::{env, io};
 
-/// What `--help` writes.
-const HELP: &str = "usage: berconv [--from ber|cer|der] [--to ber|cer|der] [FILE]
+/// How to use the program, in a line.
+const USAGE: &str = "usage: berconv [OPTION ..] [FILE]";
 
-Reads values in the encoding rules of --from (BER), and writes them in those of --to (DER).
-Without FILE, or where it is -, standard input is read.
+/// How to use the program.
+const HELP: &str = "usage: berconv [OPTION ..] [FILE]
 
-  --from ber|cer|der  the rules that the octets have to be in
-  --to ber|cer|der    the rules in which the values are written
-  -h, --help          write this, and end
-  --version           write the version, and end
-  --                  what follows is no option
+Converts values between BER, CER and DER.
 
-The status is 0 if the values were written, 1 if the octets are no values in the rules of --from, if
-a value isn't converted or memory ran out, and 2 if a file isn't read or written, or on wrong usage.
+  FILE           a file, or - for standard input, as if there is none
+  --from RULES   the encoding rules that the octets have to follow: ber, cer or
+                 der; else those of BER
+  --to RULES     the rules in which the values are written; else those of DER
+  --sort-sets    put the values inside each SET in order, as CER and DER want it
+  --input FORM   the form of the file: hex, base64, pem or der (octets); else it
+                 is found out. Each block of a PEM file is converted
+  --pem LABEL    write PEM blocks with this label, one for each that is read;
+                 else the octets are written, one after the other
+  --             what follows is a file
+  -h, --help     show this
+  --version      show the version
+
+The status is 0 if all was written, 1 if octets were refused, and 2 if the file
+can't be read, or if the usage is wrong.
 ";
 
 /// What `--version` writes.
-const VERSION: &str = "berconv (bcder 0.7.7)\n";
-
-/// Returns the octets of a file, or of standard input.
-fn octets_of(rt: &HostRuntime, file: Option<&str>) -> io::Result<Vec<u8>> {
-    if let Some(path) = file {
-        return fs::read(rt, path);
-    }
-    let mut octets = Vec::new(rt.alloc());
-    rt.stdin().read_to_end(&mut octets)?;
-    Ok(octets)
-}
+const VERSION: &str = "berconv 0.7.7\n";
 
 /// Returns the arguments without the name of the program.
 fn arguments(rt: &HostRuntime) -> io::Result<Vec<String>> {
@@ -49,46 +49,32 @@ fn arguments(rt: &HostRuntime) -> io::Result<Vec<String>> {
     Ok(args.collect(rt.alloc())?)
 }
 
-/// Returns the status for what can't be read: that of a want of memory, or of any other failure.
-fn status_of(error: &io::Error) -> u8 {
-    if error.kind() == ErrorKind::OutOfMemory {
-        1
-    } else {
-        2
-    }
+/// Writes a text, and returns the exit status.
+fn show(rt: &HostRuntime, text: &str) -> u8 {
+    run::put(text.as_bytes(), &mut rt.stdout(), &mut rt.stderr()).code()
+}
+
+/// Converts a file, and returns the exit status.
+fn convert(rt: &HostRuntime, request: Request<'_>, name: &str) -> u8 {
+    let input = cli::files::read(rt, name);
+    let mut out = rt.stdout();
+    let mut err = rt.stderr();
+    run::run(rt.alloc(), request, &input, &mut out, &mut err).code()
 }
 
 /// Does what the arguments ask for, and returns the exit status.
 fn answer(rt: &HostRuntime) -> io::Result<u8> {
     let args = arguments(rt)?;
-    let mut out = rt.stdout();
-    let mut err = rt.stderr();
-    let request = match request::read(&args) {
-        Ok(Asked::Conversion(request)) => request,
-        Ok(Asked::Help) => return Ok(run::put(HELP.as_bytes(), &mut out, &mut err)),
-        Ok(Asked::Version) => return Ok(run::put(VERSION.as_bytes(), &mut out, &mut err)),
+    match request::read(&args) {
+        Ok(Asked::Help) => Ok(show(rt, HELP)),
+        Ok(Asked::Version) => Ok(show(rt, VERSION)),
+        Ok(Asked::Conversion(request, name)) => Ok(convert(rt, request, name)),
         Err(misuse) => {
             eprintln!(rt; "berconv: {misuse}")?;
-            eprintln!(rt; "usage: berconv [--from ber|cer|der] [--to ber|cer|der] [FILE]")?;
-            return Ok(2);
+            eprintln!(rt; "{USAGE}")?;
+            Ok(2)
         }
-    };
-    let octets = match octets_of(rt, request.file) {
-        Ok(octets) => octets,
-        Err(error) => {
-            let name = request.file.unwrap_or("standard input");
-            let _ = eprintln!(rt; "berconv: {name}: {error}");
-            return Ok(status_of(&error));
-        }
-    };
-    Ok(run::run(
-        rt.alloc(),
-        request.from,
-        request.to,
-        &octets,
-        &mut out,
-        &mut err,
-    ))
+    }
 }
 
 fn main(rt: HostRuntime) -> ExitCode {
@@ -96,7 +82,7 @@ fn main(rt: HostRuntime) -> ExitCode {
         Ok(status) => ExitCode::from(status),
         Err(error) => {
             let _ = eprintln!(rt; "berconv: {error}");
-            ExitCode::from(status_of(&error))
+            ExitCode::from(2)
         }
     }
 }

@@ -1,28 +1,50 @@
 //! Reads the arguments.
-ghost use Rattle.std.specs.Prelude.{◌≡◌, MatchOption};
+ghost use Rattle.std.specs.Prelude.{◌≡◌, IfOk, OnOk, true};
 ghost use Rattle.bcder.specs.declared.mode.Mode.{Mode as TheMode};
-ghost use Rattle.berconv.specs.Words.{mode_word};
+ghost use Rattle.cli.specs.Armor.{is_label};
+ghost use Rattle.berconv.specs.Words.{IsRules, IsTaken};
 
 use bcder::Mode;
+use cli::arguments::{Argument, Arguments};
+use cli::armor::is_label;
+use cli::files::STDIN;
+use cli::form::Form;
+use cli::shown::Shown;
 use std::fmt;
 
-/// The rules to convert from and to, and the file to be converted, unless it is standard input.
-#[derive(Clone, Copy)]
+/// What is to be converted, and how.
+#[derive(Clone, Copy, Debug)]
 pub(crate) struct Request<'a> {
-    pub(crate) from: Mode,
-    pub(crate) to: Mode,
-    pub(crate) file: Option<&'a str>,
+    /// The rules that the octets have to follow.
+    pub from: Mode,
+
+    /// The rules in which the values are written.
+    pub to: Mode,
+
+    /// Whether the values inside each SET are put in order, if the rules have one.
+    pub sorts: bool,
+
+    /// The form of the file, or `None` if it is to be found out.
+    pub form: Option<Form>,
+
+    /// The label of the blocks of text that are written, if they are wanted.
+    pub pem: Option<&'a str>,
 }
 
 /// What the arguments ask for.
 #[derive(Clone, Copy)]
 pub(crate) enum Asked<'a> {
-    Conversion(Request<'a>),
+    /// How to use the program.
     Help,
+
+    /// Its version.
     Version,
+
+    /// The conversion of a file.
+    Conversion(Request<'a>, &'a str),
 }
 
-/// Why the arguments ask for nothing.
+/// Why arguments ask for nothing.
 #[derive(Clone, Copy)]
 pub(crate) enum Misuse<'a> {
     /// There is no such option.
@@ -32,75 +54,108 @@ pub(crate) enum Misuse<'a> {
     SecondFile(&'a str),
 
     /// No rules follow this option.
-    NoRules(&'a str),
+    Rules(&'a str),
+
+    /// The values of a SET have no order in the rules that are named.
+    Sorting,
+
+    /// No form follows the option for it.
+    Form,
+
+    /// No label follows the option for it.
+    Label,
 }
 
 impl fmt::Display for Misuse<'_> {
     fn fmt<W: fmt::Write>(&self, f: &mut fmt::Formatter<W>) -> fmt::Result {
         match self {
-            Misuse::Option(word) => write!(f, "{word}: no such option"),
-            Misuse::SecondFile(word) => write!(f, "{word}: a second file"),
-            Misuse::NoRules(word) => write!(f, "{word}: not followed by ber, cer or der"),
+            Misuse::Option(word) => write!(f, "{}: no such option", Shown(word)),
+            Misuse::SecondFile(word) => write!(f, "{}: a second file", Shown(word)),
+            Misuse::Rules(option) => write!(f, "{option}: ber, cer or der has to follow"),
+            Misuse::Sorting => write!(f, "--sort-sets: in BER a SET has no order"),
+            Misuse::Form => write!(f, "--input: hex, base64, pem or der has to follow"),
+            Misuse::Label => write!(f, "--pem: a label has to follow"),
         }
     }
 }
 
-/// Returns the rules that a word names.
-fn rules_named(word: &str) -> Option<Mode>
-    ensures { MatchOption result
-        ((mode : TheMode) → word.now ≡ mode_word mode → ⊥)
-        (λ mode. word.now ≡ mode_word mode) }
+/// Returns the rules that follow an option.
+fn rules<'a>(option: &'a str, args: &mut Arguments<'a>) -> Result<Mode, Misuse<'a>>
+    ensures rules { IfOk result (IsRules args.old args.new) }
+    ensures taken { OnOk result (IsTaken args.old args.new) }
 {
-    match word {
-        "ber" => Some(Mode::Ber),
-        "cer" => Some(Mode::Cer),
-        "der" => Some(Mode::Der),
-        _ => None,
+    match args.value() {
+        Some("ber") => Ok(Mode::Ber),
+        Some("cer") => Ok(Mode::Cer),
+        Some("der") => Ok(Mode::Der),
+        _ => Err(Misuse::Rules(option)),
     }
 }
 
-/// Returns what the arguments ask for. Of several rules for one side the last count.
-pub(crate) fn read(args: &[String]) -> Result<Asked<'_>, Misuse<'_>> {
+/// Returns the form that follows the option for it.
+fn form<'a>(args: &mut Arguments<'a>) -> Result<Form, Misuse<'a>>
+    ensures { OnOk result (IsTaken args.old args.new) }
+{
+    let Some(word) = args.value() else {
+        return Err(Misuse::Form);
+    };
+    match Form::named(word) {
+        Some(form) => Ok(form),
+        None => Err(Misuse::Form),
+    }
+}
+
+/// Returns the label that follows the option for it.
+fn label<'a>(args: &mut Arguments<'a>) -> Result<&'a str, Misuse<'a>>
+    ensures label { IfOk result (λ label. is_label label.now ≡ true) }
+    ensures taken { OnOk result (IsTaken args.old args.new) }
+{
+    let Some(word) = args.value() else {
+        return Err(Misuse::Label);
+    };
+    if is_label(word) {
+        Ok(word)
+    } else {
+        Err(Misuse::Label)
+    }
+}
+
+/// Returns what the arguments ask for, or why they ask for nothing. Of an option that stands there
+/// twice the last counts.
+pub(crate) fn read(words: &[String]) -> Result<Asked<'_>, Misuse<'_>> {
+    let mut args = Arguments::new(words);
+    let mut file = None;
     let mut request = Request {
         from: Mode::Ber,
         to: Mode::Der,
-        file: None,
+        sorts: false,
+        form: None,
+        pem: None,
     };
-    let mut options = true;
-    let mut has_file = false;
-    let mut before: Option<&str> = None;
-    for arg in args {
-        let word = arg.as_str();
-        if let Some(option) = before {
-            let Some(rules) = rules_named(word) else {
-                return Err(Misuse::NoRules(option));
-            };
-            if option == "--from" {
-                request.from = rules;
-            } else {
-                request.to = rules;
+    while let Some(argument) = args.next() {
+        let option = match argument {
+            Argument::File(name) => {
+                if file.is_some() {
+                    return Err(Misuse::SecondFile(name));
+                }
+                file = Some(name);
+                continue;
             }
-            before = None;
-        } else if options && word.starts_with('-') && word != "-" {
-            match word {
-                "--from" | "--to" => before = Some(word),
-                "--" => options = false,
-                "-h" | "--help" => return Ok(Asked::Help),
-                "--version" => return Ok(Asked::Version),
-                _ => return Err(Misuse::Option(word)),
-            }
-        } else {
-            if has_file {
-                return Err(Misuse::SecondFile(word));
-            }
-            has_file = true;
-            if word != "-" {
-                request.file = Some(word);
-            }
+            Argument::Option(option) => option,
+        };
+        match option {
+            "--from" => request.from = rules(option, &mut args)?,
+            "--to" => request.to = rules(option, &mut args)?,
+            "--sort-sets" => request.sorts = true,
+            "--input" => request.form = Some(form(&mut args)?),
+            "--pem" => request.pem = Some(label(&mut args)?),
+            "-h" | "--help" => return Ok(Asked::Help),
+            "--version" => return Ok(Asked::Version),
+            _ => return Err(Misuse::Option(option)),
         }
     }
-    match before {
-        Some(option) => Err(Misuse::NoRules(option)),
-        None => Ok(Asked::Conversion(request)),
+    if request.sorts && request.to == Mode::Ber {
+        return Err(Misuse::Sorting);
     }
+    Ok(Asked::Conversion(request, file.unwrap_or(STDIN)))
 }

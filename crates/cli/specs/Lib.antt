@@ -1,4 +1,5 @@
 pub mod Arguments
+pub mod Armor
 pub mod Shown
 pub mod Pem
 pub mod Spelling

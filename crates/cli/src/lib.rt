@@ -3,6 +3,7 @@
 #![tactic(auto)]
 
 pub mod arguments;
+pub mod armor;
 pub mod files;
 pub mod form;
 pub mod pem;

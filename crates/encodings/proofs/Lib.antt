@@ -23,3 +23,7 @@ pub mod Passing
 pub mod Cutting
 pub mod CutTrees
 pub mod Converting
+pub mod Arranging
+pub mod Copying
+pub mod CopySteps
+pub mod Keying

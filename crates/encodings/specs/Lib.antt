@@ -13,3 +13,5 @@ pub mod Text
 pub mod Conversion
 pub mod Pieces
 pub mod Cutting
+pub mod Sets
+pub mod Sorting

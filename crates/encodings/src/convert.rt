@@ -75,15 +75,15 @@ pub(crate) struct Item<'a> {
 
 /// The header of a value, and the octets behind it.
 #[derive(Clone, Copy)]
-struct Begun<'a> {
-    tag: Tag,
-    constructed: bool,
+pub(crate) struct Begun<'a> {
+    pub(crate) tag: Tag,
+    pub(crate) constructed: bool,
 
     /// The contents octets, or, with the indefinite form, all octets behind the header.
-    contents: &'a [u8],
+    pub(crate) contents: &'a [u8],
 
     /// The octets behind the contents octets, unless the form is indefinite.
-    behind: Option<&'a [u8]>,
+    pub(crate) behind: Option<&'a [u8]>,
 }
 
 /// The contents octets of the boolean that is true (X.690, 11.1).
@@ -270,7 +270,7 @@ fn end_of(inside: usize) -> (Item<'static>, usize)
 }
 
 /// Reads the header of the next value.
-fn begin(mode: Mode, rest: &[u8]) -> Option<Begun<'_>>
+pub(crate) fn begin(mode: Mode, rest: &[u8]) -> Option<Begun<'_>>
     ensures some { IfSome result (λ b. BeginsPiece mode rest.now b.tag b.constructed
         b.contents.now (option_map (λ s. s.now) b.behind)) }
     ensures none { IfNone result (read_tree mode rest.now ≡ None) }

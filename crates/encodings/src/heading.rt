@@ -30,7 +30,7 @@ pub struct Heading {
 }
 
 /// Returns the class of a tag as a number.
-fn class_of(tag: Tag) -> u8
+pub(crate) fn class_of(tag: Tag) -> u8
     ensures { result ≡ class_number tag.class }
 {
     if tag.is_universal() {

@@ -5,7 +5,7 @@
 //! - [`next`] goes from value to value, and [`heading`] reads the header of one.
 //! - [`contents`], [`bits`], [`magnitude`], [`identifier`], [`string`] and [`text`] tell what the
 //!   contents octets of primitive values mean.
-//! - [`convert`] stores values in other rules.
+//! - [`convert`] stores values in other rules, and [`sets`] puts the values inside each SET in order.
 //!
 //! What can be refused for several reasons returns a number of [`status`].
 #![tactic(auto)]
@@ -22,6 +22,7 @@ pub mod heading;
 pub mod identifier;
 pub mod magnitude;
 pub mod next;
+pub mod sets;
 pub mod status;
 pub mod string;
 pub mod text;

@@ -1,14 +1,7 @@
-use Rattle.std.proofs.Common.{refl, subst, sym}
-use Rattle.std.proofs.KnownBytes.{Keeps-refl}
-use Rattle.encodings.specs.Conversion.{IsConversion}
+use Rattle.std.proofs.Common.{subst}
 use Rattle.berconv.specs.Ends.{Ends}
 use Rattle.berconv.proofs.run.run.Goals as goal
 
 pub returns-in-Ok : goal.returns-in-Ok
-returns-in-Ok g c =
-    let is = subst (IsConversion c.args.from c.args.to c.args.octets.now) (sym c.deref.ensures.value) c.in-Ok.ensures.converted in
-    Ends.converted c.deref.result.now is c.put.ensures
-
-pub returns-in-Err : goal.returns-in-Err
-returns-in-Err g c =
-    Ends.refused refl c.in-Err.refusal c.in-Err.ensures.refused (Keeps-refl (g.W.Write.contents c.args.out.now)) c.refuse.ensures
+returns-in-Ok g c = rw c.in-Ok.is (subst (λ v. Ends c.args.request v (g.W.Write.contents c.args.out.now) (g.W.Write.contents c.run_read.new.out)
+    (g.E.Write.contents c.args.err.now) (g.E.Write.contents c.run_read.new.err) c.run_read.result) c.deref.ensures.value c.run_read.ensures)
