@@ -2,7 +2,14 @@
 ghost use Rattle.std.specs.Prelude.{◌≡◌, IfSome, IfNone, IfOk, IfErr};
 ghost use Rattle.cli.specs.declared.form.Form.{Form as TheForm};
 ghost use Rattle.cli.specs.Spelling.{
-    IsName, is_blank, dense, SpellsHex, SpellsNoHex, SpellsBase64, SpellsNoBase64, IsMisspelled,
+  IsName,
+  is_blank,
+  dense,
+  SpellsHex,
+  SpellsNoHex,
+  SpellsBase64,
+  SpellsNoBase64,
+  IsMisspelled,
 };
 
 use base64::engine::general_purpose::{GeneralPurpose, GeneralPurposeConfig};

@@ -2,8 +2,22 @@
 ghost use Rattle.std.specs.Prelude.{◌≡◌, ◌≢◌, ◌<◌, ◌≤◌, length, reverse, codes};
 ghost use Rattle.std.specs.Prelude.{IfSome, IfNone, IfOk, IfErr};
 ghost use Rattle.cli.specs.Pem.{
-    MayBegin, IsSplit, Lacks, line_of, after_line, starts_line, IsLabelLine, IsOtherLine, IsBody,
-    IsUnended, HasBody, IsBlock, IsNoBlock, IsNext, HasNoBlock, IsHeaderIn,
+  MayBegin,
+  IsSplit,
+  Lacks,
+  line_of,
+  after_line,
+  starts_line,
+  IsLabelLine,
+  IsOtherLine,
+  IsBody,
+  IsUnended,
+  HasBody,
+  IsBlock,
+  IsNoBlock,
+  IsNext,
+  HasNoBlock,
+  IsHeaderIn,
 };
 
 /// What a block begins with.

@@ -5,14 +5,20 @@ use Rattle.berdump.proofs.Running.{all_titled, bound_join, bound_untitled}
 use Rattle.berdump.proofs.run.run_input.Goals as goal
 
 pub returns-then-is_only-clause-file : goal.returns-then-is_only-clause-file
-returns-then-is_only-clause-file g c = λ z. rw (c.in-Ok.is, c.if-is_only.true) (g.W.Write.contents c.args.out.now, Keeps-refl (g.W.Write.contents c.args.out.now),
-    subst (λ w. IsInput c.args.request w (g.W.Write.contents c.args.out.now) (g.W.Write.contents c.run_read.new.out)) c.deref.ensures.value
-    (c.run_read.ensures.input z))
+returns-then-is_only-clause-file g c = λ z. rw (c.in-Ok.is, c.if-is_only.true) (
+  g.W.Write.contents c.args.out.now,
+  Keeps-refl (g.W.Write.contents c.args.out.now),
+  subst (λ w. IsInput c.args.request w (g.W.Write.contents c.args.out.now) (g.W.Write.contents c.run_read.new.out)) c.deref.ensures.value
+      (c.run_read.ensures.input z),
+)
 
 pub returns-in-Ok-write_title-clause-file : goal.returns-in-Ok-write_title-clause-file
-returns-in-Ok-write_title-clause-file g c = λ z. rw (c.in-Ok.is, c.if-is_only.false) (g.W.Write.contents c.write_title.new.out,
-    c.in-Ok-write_title.ensures.titled, subst (λ w. IsInput c.args.request w (g.W.Write.contents c.write_title.new.out)
-    (g.W.Write.contents c.run_read-in-Ok-write_title.new.out)) c.deref-in-Ok-write_title.ensures.value (c.run_read-in-Ok-write_title.ensures.input z))
+returns-in-Ok-write_title-clause-file g c = λ z. rw (c.in-Ok.is, c.if-is_only.false) (
+  g.W.Write.contents c.write_title.new.out,
+  c.in-Ok-write_title.ensures.titled,
+  subst (λ w. IsInput c.args.request w (g.W.Write.contents c.write_title.new.out)
+      (g.W.Write.contents c.run_read-in-Ok-write_title.new.out)) c.deref-in-Ok-write_title.ensures.value (c.run_read-in-Ok-write_title.ensures.input z),
+)
 
 pub returns-in-Ok-write_title-clause-bound : goal.returns-in-Ok-write_title-clause-bound
 returns-in-Ok-write_title-clause-bound g c = bound_join c.args.request.scope c.args.request.mode (g.W.Write.contents c.args.out.now)
