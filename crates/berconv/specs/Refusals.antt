@@ -3,7 +3,8 @@ use Rattle.std.specs.Prelude.{◌⊎◌, ℕ, zero, suc, List, [], ◌++◌, ◌
 use Rattle.bcder.specs.calls.Target.{AppendsFront}
 use Rattle.encodings.specs.Status.{beyond, ended}
 use Rattle.berconv.specs.declared.refusal.Refusal.{Refusal}
-use Rattle.berconv.specs.declared.refusal.Refusal.TheVariants.{NoValues, NotConverted, NoMemory, NoBlock, Unended, OtherLabel, Headers, NotBase64, Misspelled}
+use Rattle.berconv.specs.declared.refusal.Refusal.TheVariants.{NoValues, NotConverted, NoMemory, NoBlock, Unended}
+use Rattle.berconv.specs.declared.refusal.Refusal.TheVariants.{OtherLabel, Headers, NotBase64, Misspelled}
 use Rattle.berconv.specs.declared.status.Status.{Status}
 use Rattle.berconv.specs.declared.status.Status.TheVariants as status
 

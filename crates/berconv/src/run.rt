@@ -7,8 +7,8 @@ ghost use Rattle.encodings.specs.Values.{AreNoValues};
 ghost use Rattle.berconv.specs.Carried.{HasBlocks, IsBlockOf, IsFound, IsSpelling, IsWhole};
 ghost use Rattle.berconv.specs.Carried.{MayHaveBlocks};
 ghost use Rattle.berconv.specs.Ends.{AppendsConversion, AppendsConversions, Ends, Puts, Runs};
-ghost use Rattle.berconv.specs.Ends.{IsRefused, IsRefusedIn, IsUnconverted, IsInOrder, IsUnreadable, text_of};
-ghost use Rattle.berconv.specs.Ends.{IsConverted};
+ghost use Rattle.berconv.specs.Ends.{IsConverted, IsInOrder, IsRefused, IsRefusedIn};
+ghost use Rattle.berconv.specs.Ends.{IsUnconverted, IsUnreadable, text_of};
 
 use crate::refusal::{Refusal, refuse, tell};
 use crate::request::Request;
@@ -345,8 +345,8 @@ fn converted_blocks(
     Ok(text)
 }
 
-/// Writes what an input becomes on `out`, and returns how that ends. Nothing is written before it is
-/// known that all of it is converted. If it isn't, `err` says why, and where.
+/// Writes what an input becomes on `out`, and returns how that ends. Nothing is written before it
+/// is known that all of it is converted. If it isn't, `err` says why, and where.
 fn run_read<W: io::Write, E: io::Write>(
     alloc: Global,
     request: Request<'_>,

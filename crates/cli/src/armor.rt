@@ -19,8 +19,8 @@ fn is_label_char(character: u8) -> bool
     character > b' ' && character < 0x7F && character != b'-'
 }
 
-/// Returns whether a label that goes on with a character ends in a word, if it may: whether it ended
-/// in one is known.
+/// Returns whether a label that goes on with a character ends in a word, if it may: whether it
+/// ended in one is known.
 fn goes_on(in_word: bool, character: u8) -> Option<bool>
     ensures some { IfSome result (λ then. (w : List ℕ)
         → is_label_behind in_word (character ∷ w) ≡ is_label_behind then w) }

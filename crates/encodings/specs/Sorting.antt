@@ -1,5 +1,6 @@
 -- How the values inside each SET are put in order.
-use Rattle.std.specs.Prelude.{◌≡◌, ℕ, ◌+◌, ◌-◌, ◌*◌, ◌<◌, ◌≤◌, ◌⊎◌, Bool, true, false, ⊤, List, [], ◌∷◌, ◌++◌, length, map, reverse, take, drop}
+use Rattle.std.specs.Prelude.{◌≡◌, ℕ, ◌+◌, ◌-◌, ◌*◌, ◌<◌, ◌≤◌, ◌⊎◌, Bool, true, false, ⊤, List, [], ◌∷◌, ◌++◌, length, map}
+use Rattle.std.specs.Prelude.{reverse, take, drop}
 use Rattle.std.specs.Prelude.{Option, Some, None, option_map, sum_by, IsPermutation}
 use Rattle.bcder.specs.declared.mode.Mode.{Mode}
 use Rattle.bcder.specs.x690.Encoding.{IsHeader, IsEncoding, AreEncodings}
@@ -100,7 +101,8 @@ abbrev pub behind_open : Enclosing → Open
 behind_open f = option_map (λ s. s.now) f.behind
 
 -- inside an open value: what was copied of the values around it, its header, and the values inside it; what was passed stands before x
-pub record Inside (mode : Mode) (f : Enclosing) (copied : List Copied) (out x : List ℕ) (Around : List Copied → List ℕ → List ℕ → Type 0) : Type 0 where
+pub record Inside (mode : Mode) (f : Enclosing) (copied : List Copied) (out x : List ℕ)
+    (Around : List Copied → List ℕ → List ℕ → Type 0) : Type 0 where
   pub layer : Layer
   pub holds : Holds mode layer
   pub tag : Tag
@@ -152,8 +154,10 @@ pub record GoesOver (mode : Mode) (x : List ℕ) (os ps : List Enclosing) (cs ds
 -- a value or its header was copied
 pub data Enters (mode : Mode) (x : List ℕ) (os ps : List Enclosing) (cs ds : List Copied) (v w y : List ℕ) : Type 0 where
   passes : (t : Tag) (h c : List ℕ) → IsHeader mode t false (length_of (Some (length c))) h → AreOctets c → x ≡ (h ++ c) ++ y → ps ≡ os
-      → w ≡ v ++ (h ++ c) → (d : Copied) → d.place ≡ place t → d.size ≡ length (h ++ c) → ds ≡ cs ++ d ∷ [] → Enters mode x os ps cs ds v w y
-  opens : (f : Enclosing) (t : Tag) (h : List ℕ) → f.place ≡ place t → f.sorts ≡ is_set t → IsHeader mode t true (length_of (open_length (behind_open f) (length y))) h
+      → w ≡ v ++ (h ++ c) → (d : Copied) → d.place ≡ place t → d.size ≡ length (h ++ c) → ds ≡ cs ++ d ∷ []
+      → Enters mode x os ps cs ds v w y
+  opens : (f : Enclosing) (t : Tag) (h : List ℕ) → f.place ≡ place t → f.sorts ≡ is_set t
+      → IsHeader mode t true (length_of (open_length (behind_open f) (length y))) h
       → x ≡ h ++ (y ++ behind_of (behind_open f)) → ps ≡ os ++ f ∷ [] → ds ≡ cs → w ≡ v ++ h → f.start ≡ length v → f.inner ≡ length w
       → f.first ≡ length cs → Enters mode x os ps cs ds v w y
 
