@@ -1,10 +1,10 @@
 -- Blocks of a text, one after the other.
 use Rattle.std.proofs.Common.{ℕ, List, [], ◌∷◌, ◌++◌, refl, subst, inl, inr}
 use Rattle.cli.specs.declared.pem.Block.{Block}
-use Rattle.cli.specs.Pem.{IsNext}
+use Rattle.cli.specs.Pem.{IsNext, HasNoBlock}
 use Rattle.berconv.specs.declared.refusal.Refusal.{Refusal}
 use Rattle.berconv.specs.declared.request.Request.{Request}
-use Rattle.berconv.specs.Carried.{IsBlockOf, StandBefore}
+use Rattle.berconv.specs.Carried.{AreBlocks, IsBlockOf, StandBefore}
 use Rattle.berconv.specs.Ends.{AppendsConversion, AppendsConversions, IsRefusedIn, IsUnconverted}
 
 -- the blocks of a text up to x were converted
@@ -20,6 +20,10 @@ stand_more : (text x : List ℕ) (vs : List (List ℕ)) (b : Block) (v : List �
     → StandBefore b.rest.now text (vs ++ v ∷ [])
 stand_more text x [] b v h s k = (b, subst (λ z. IsNext z b) h s, k, refl)
 stand_more text x (u ∷ vs) b v h s k = (h.0, h.1, h.2, stand_more h.0.rest.now x vs b v h.3 s k)
+
+no_others : (text x : List ℕ) (vs : List (List ℕ)) → StandBefore x text vs → HasNoBlock x → AreBlocks text vs
+no_others text x [] h n = subst HasNoBlock h n
+no_others text x (u ∷ vs) h n = (h.0, h.1, h.2, no_others h.0.rest.now x vs h.3 n)
 
 module _ (r : Request) where
   appends_more : (vs : List (List ℕ)) (v old mid new : List ℕ) → AppendsConversions r vs old mid → AppendsConversion r v mid new
@@ -39,3 +43,7 @@ module _ (r : Request) where
       → IsUnconverted r text e
   one_refused text x old mid b e c s (inl u) = inl u
   one_refused text x old mid b e c s (inr (v, k, h)) = inr (c.parts, v, (b.rest.now, stand_more text x c.parts b v c.stand s k), h)
+
+  pub all_converted : (text x old new : List ℕ) → Converted r text x old new → HasNoBlock x
+      → (parts : List (List ℕ)) × AreBlocks text parts × AppendsConversions r parts old new
+  all_converted text x old new c n = (c.parts, no_others text x c.parts c.stand n, c.appends)

@@ -5,7 +5,7 @@ use Rattle.bcder.specs.declared.mode.Mode.{Mode}
 use Rattle.cli.specs.declared.form.Form.{Form}
 use Rattle.cli.specs.declared.form.Form.TheVariants as form
 use Rattle.cli.specs.declared.pem.Block.{Block}
-use Rattle.cli.specs.Pem.{MayBegin, IsNext}
+use Rattle.cli.specs.Pem.{MayBegin, IsNext, HasNoBlock}
 use Rattle.cli.specs.Spelling.{SpellsHex, SpellsNoHex, SpellsBase64}
 use Rattle.encodings.specs.Values.{AreNoValues}
 use Rattle.berconv.specs.declared.run.Spelled.{Spelled}
@@ -32,6 +32,11 @@ StandBefore rest text (v ∷ vs) = (b : Block) × IsNext text b × IsBlockOf b v
 -- in a text, whatever follows them
 abbrev pub HasBlocks : List ℕ → List (List ℕ) → Type 0
 HasBlocks text vs = (rest : List ℕ) × StandBefore rest text vs
+
+-- the blocks of a text are those of these octets, and no other begins there
+abbrev pub AreBlocks : List ℕ → List (List ℕ) → Type 0
+AreBlocks text [] = HasNoBlock text
+AreBlocks text (v ∷ vs) = (b : Block) × IsNext text b × IsBlockOf b v × AreBlocks b.rest.now vs
 
 -- ---- texts that spell octets
 

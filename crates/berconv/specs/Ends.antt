@@ -17,7 +17,7 @@ use Rattle.berconv.specs.declared.refusal.Refusal.TheVariants.{NoValues, NotConv
 use Rattle.berconv.specs.declared.request.Request.{Request}
 use Rattle.berconv.specs.declared.status.Status.{Status}
 use Rattle.berconv.specs.declared.status.Status.TheVariants as status
-use Rattle.berconv.specs.Carried.{HasBlocks, MayHaveBlocks, IsWhole}
+use Rattle.berconv.specs.Carried.{AreBlocks, HasBlocks, MayHaveBlocks, IsWhole}
 use Rattle.berconv.specs.Refusals.{RefusedWith, status_of}
 
 -- the exit status
@@ -108,7 +108,7 @@ pub record Refuses (r : Refusal) (out_old out_new err_old err_new : Option (List
 -- the octets of the blocks were converted, or those that the input is or spells, and what is written of them was put; or some are
 -- refused, and nothing was
 pub data Ends (r : Request) (input : List ℕ) (out_old out_new err_old err_new : Option (List ℕ)) (s : Status) : Type 0 where
-  in_blocks : MayHaveBlocks r.form input → (vs : List (List ℕ)) → HasBlocks input vs → (text : List ℕ) → AppendsConversions r vs [] text
+  in_blocks : MayHaveBlocks r.form input → (vs : List (List ℕ)) → AreBlocks input vs → (text : List ℕ) → AppendsConversions r vs [] text
       → Puts text out_old out_new err_old err_new s → Ends r input out_old out_new err_old err_new s
   alone : (v : List ℕ) → IsWhole r.from r.form input v → (text : List ℕ) → AppendsConversion r v [] text
       → Puts text out_old out_new err_old err_new s → Ends r input out_old out_new err_old err_new s

@@ -4,7 +4,7 @@ ghost use Rattle.std.specs.Io.KnownBytes.{Appends};
 ghost use Rattle.bcder.specs.calls.Target.{AppendsFront};
 ghost use Rattle.encodings.specs.Conversion.{IsConversion};
 ghost use Rattle.encodings.specs.Values.{AreNoValues};
-ghost use Rattle.berconv.specs.Carried.{HasBlocks, IsBlockOf, IsFound, IsSpelling, IsWhole};
+ghost use Rattle.berconv.specs.Carried.{AreBlocks, IsBlockOf, IsFound, IsSpelling, IsWhole};
 ghost use Rattle.berconv.specs.Carried.{MayHaveBlocks};
 ghost use Rattle.berconv.specs.Ends.{AppendsConversion, AppendsConversions, Ends, Puts, Runs};
 ghost use Rattle.berconv.specs.Ends.{IsConverted, IsInOrder, IsRefused, IsRefusedIn};
@@ -229,7 +229,7 @@ fn append_blocks(
     octets: &[u8],
     text: &mut Vec<u8>,
 ) -> Result<(), (usize, Refusal)>
-    ensures appended { OnOk result ((parts : List (List ℕ)) × HasBlocks octets.now parts
+    ensures appended { OnOk result ((parts : List (List ℕ)) × AreBlocks octets.now parts
         × AppendsConversions request.entry parts text.old.items text.new.items) }
     ensures refused { IfErr result (λ r. IsUnconverted request.entry octets.now r.1) }
 {
@@ -336,7 +336,7 @@ fn converted_blocks(
     request: Request<'_>,
     octets: &[u8],
 ) -> Result<Vec<u8>, (usize, Refusal)>
-    ensures converted { IfOk result (λ text. (parts : List (List ℕ)) × HasBlocks octets.now parts
+    ensures converted { IfOk result (λ text. (parts : List (List ℕ)) × AreBlocks octets.now parts
         × AppendsConversions request.entry parts [] text.items) }
     ensures refused { IfErr result (λ r. IsUnconverted request.entry octets.now r.1) }
 {
