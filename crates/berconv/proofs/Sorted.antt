@@ -1,5 +1,6 @@
 -- Values that are put in order, if that is wanted.
-use Rattle.std.proofs.Common.{◌≡◌, ◌≢◌, ℕ, Bool, true, false, List, refl, sym, subst, arith}
+use Rattle.std.proofs.Common.{◌≡◌, ◌≢◌, ℕ, Bool, true, false, List, ◌++◌, length, take, refl, sym, subst, arith}
+use Rattle.std.proofs.Math.Seq.{take-append_seam}
 use Rattle.bcder.specs.declared.mode.Mode.{Mode}
 use Rattle.bcder.specs.declared.mode.Mode.TheVariants.{Ber, Cer, Der}
 use Rattle.encodings.specs.Sets.{IsSorting, SortsSets, in_order, no_values, lacking}
@@ -22,3 +23,10 @@ pub was_sorted : (sorts : Bool) (to : Mode) (v w : List ℕ) (s : ℕ) → sorts
 was_sorted sorts to v w s e n k (in_order a h) = subst (λ b. IsInOrder b to v w) (sym e) (put_in_order to v w n h)
 was_sorted sorts to v w s e n k (no_values a h b) = absurd (omega (arith, a, k))
 was_sorted sorts to v w s e n k (lacking a b) = absurd (omega (arith, a, k))
+
+-- the octets w were written over v, and nothing follows them
+pub in_place : (sorts : Bool) (to : Mode) (u v w more : List ℕ) (n : ℕ) → u ≡ v → length w ≡ n → IsInOrder sorts to u w
+    → IsInOrder sorts to v (take n (w ++ more))
+in_place sorts to u v w more n e k h =
+    subst (λ z. IsInOrder sorts to z (take n (w ++ more))) e
+    (subst (λ z. IsInOrder sorts to u z) (sym (subst (λ i. take i (w ++ more) ≡ w) k (take-append_seam w more))) h)

@@ -1,4 +1,4 @@
-use Rattle.std.proofs.Common.{◌≡◌, ◌≢◌, true, false, refl, rules}
+use Rattle.std.proofs.Common.{◌≡◌, ◌≢◌, true, false, rules}
 use Rattle.bcder.specs.declared.mode.Mode.TheVariants.{Ber}
 use Rattle.berconv.proofs.Sorted.{not_wanted, in_basic, was_sorted}
 use Rattle.berconv.proofs.run.sort.Goals as goal
