@@ -1,5 +1,5 @@
 """Files that openssl writes."""
-import base64, contextlib, os, subprocess
+import base64, contextlib, os, re, subprocess
 
 from der import *
 
@@ -20,7 +20,6 @@ policy = anything
 copy_extensions = copy
 unique_subject = no
 crl_extensions = crl_bare
-preserve = yes
 [anything]
 [crl_bare]
 
@@ -281,6 +280,12 @@ class Failed(Exception):
     """openssl doesn't make a file."""
 
 
+def unarmoured(octets):
+    """The octets that a PEM block encodes: some commands of openssl write nothing else."""
+    block = re.fullmatch(rb"-----BEGIN .*?-----\n(.*)\n-----END .*?-----\n", octets, re.S)
+    return base64.b64decode(block[1]) if block else octets
+
+
 class Maker:
     """Runs openssl in a folder, and puts what it writes into the corpus."""
 
@@ -321,7 +326,7 @@ class Maker:
             if os.path.exists(self.path("out")):
                 os.remove(self.path("out"))
             self.run(words, *more, "-out", "out", read=read)
-            self.put_octets(f"{name}.{ending}", self.read("out"))
+            self.put_octets(f"{name}.{ending}", unarmoured(self.read("out")))
         except Failed as why:
             self.left_out.append(f"{name}: {why}")
 
@@ -346,7 +351,7 @@ class Maker:
         digest = f" -{digest}" if digest else ""
         self.run(f"req -new -utf8 -config request.cnf -key {key}.key -out request.pem{digest}", "-subj", subject)
         signer = f"-cert {issuer}.pem -keyfile {issuer}.key" if issuer else f"-selfsign -keyfile {key}.key"
-        self.run(f"ca -batch -notext -utf8 -config openssl.cnf -in request.pem -out {name}.pem -startdate {begin} "
+        self.run(f"ca -batch -notext -utf8 -preserveDN -config openssl.cnf -in request.pem -out {name}.pem -startdate {begin} "
                  f"-enddate {end} {signer} {'-md' + digest.replace(' -', ' ') if digest else '-md null'} {more} "
                  "-extfile extensions -extensions more")
 
