@@ -34,8 +34,9 @@ FILTERS = {
     "equality": assertion(3, "cn", "Babs Jensen"),  # (cn=Babs Jensen)
     "not": context(2, assertion(3, "cn", "Tim Howes")),  # (!(cn=Tim Howes))
     # (&(objectClass=Person)(|(sn=Jensen)(cn=Babs J*)))
-    "and_or": context(0, assertion(3, "objectClass", "Person"), context(
-        1, assertion(3, "sn", "Jensen"), context(4, octets("cn"), sequence(context_octets(0, "Babs J"))))),
+    "and_or": context(0, context(1, assertion(3, "sn", "Jensen"),
+                                 context(4, octets("cn"), sequence(context_octets(0, "Babs J")))),
+                      assertion(3, "objectClass", "Person")),
     # (o=univ*of*mich*)
     "substrings": context(4, octets("o"), sequence(
         context_octets(0, "univ"), context_octets(1, "of"), context_octets(1, "mich"))),
