@@ -1,9 +1,9 @@
 -- Subidentifiers in the fewest octets.
-use Rattle.std.proofs.Common.{◌≡◌, ◌≢◌, ℕ, zero, suc, ◌+◌, ◌-◌, ◌<◌, ◌≤◌, Bool, true, false, List, [], ◌∷◌, ◌++◌, ◌∙◌, ◌⊎◌}
+use Rattle.std.proofs.Common.{◌≡◌, ◌≢◌, ℕ, zero, suc, ◌-◌, ◌<◌, Bool, true, false, List, [], ◌∷◌, ◌++◌, ◌∙◌, ◌⊎◌}
 use Rattle.std.proofs.Common.{length, get_or, refl, sym, ap, subst, inl, inr, arith}
 use Rattle.std.specs.Prelude.{⊤, nat_lt}
 use Rattle.std.proofs.lemmas.Bool.{cases_lt, lt-ltb, le-ltb}
-use Rattle.bcder.specs.x690.ObjectIdentifier.{cut_after, AreFewest, IsFewest, IsComplete, IsMinimal}
+use Rattle.bcder.specs.x690.ObjectIdentifier.{cut_after, AreFewest, IsComplete, IsMinimal}
 use Rattle.rules.specs.Broken.{IsPadded}
 
 -- no subidentifier begins with 80, also not at the first octet if one begins there

@@ -4,3 +4,6 @@ pub mod Telling
 pub mod Walking
 pub mod Identifiers
 pub mod Contents
+pub mod Cells
+pub mod Reals
+pub mod Cases

@@ -1,6 +1,6 @@
 -- What is told on the way.
-use Rattle.std.proofs.Common.{◌≡◌, ℕ, ◌+◌, ◌<◌, Bool, true, false, List, [], ◌∷◌, ◌++◌, length, Some, None, refl, sym, ap, subst, ◌∙◌, append_assoc}
-use Rattle.std.proofs.Common.{ap₂, zero, suc, ◌⊎◌, append-nil, add_assoc, arith}
+use Rattle.std.proofs.Common.{◌≡◌, ℕ, ◌+◌, ◌<◌, Bool, true, false, List, [], ◌∷◌, ◌++◌, length, Some, None, refl, sym, ap, ◌∙◌, append_assoc}
+use Rattle.std.proofs.Common.{ap₂, zero, suc, ◌⊎◌, append-nil, arith}
 use Rattle.std.specs.Prelude.{All, Result, Ok, Err, IfOk}
 use Rattle.std.proofs.lemmas.List.{length-append}
 use Rattle.std.proofs.lemmas.List.Elements.{All-append, All-nil}
@@ -11,16 +11,15 @@ use Rattle.bcder.specs.steps.Reading.{read_tree}
 use Rattle.bcder.specs.calls.Fronts.{BeginsHeader, BeginsEnd}
 use Rattle.encodings.specs.Next.{IsDue}
 use Rattle.bcder.specs.laws.Complete.{header_size}
-use Rattle.encodings.specs.Open.{Open, Closes, GoesBeyond, HasNoHeader, NotAtEnd}
+use Rattle.encodings.specs.Open.{Open, Closes, GoesBeyond, HasNoHeader}
 use Rattle.encodings.specs.Pieces.{value, begins, ends, pieces_left, before_all}
 use Rattle.encodings.proofs.Reading.{no_tree, too_short}
 use Rattle.encodings.proofs.PiecesRead.{an_end_next, none_next, value_next, beginning_next}
 use Rattle.rules.specs.Begun.{BeginsValue}
 use Rattle.rules.specs.Broken.{Breaks, BreaksValue, in_value, stray_end, Holds}
-use Rattle.rules.specs.Comes.{Comes}
 use Rattle.rules.specs.Means.{IsMeantAlone}
-use Rattle.rules.specs.Passes.{Adds, Looks, nothing, told, Enters, GoesTo, Onward, PassesValue, PassesBroken, Passes}
-use Rattle.rules.specs.Passes.{IsKept, IsWrong, no_rest, one_is_broken, Judges, clean, wrong}
+use Rattle.rules.specs.Passes.{Adds, Looks, nothing, told, Enters, Onward, PassesValue, PassesBroken, Passes}
+use Rattle.rules.specs.Passes.{no_rest, one_is_broken, Judges, clean, wrong}
 use Rattle.rules.specs.declared.rule.Breach.{Breach}
 use Rattle.rules.specs.declared.rule.Rule.{Rule}
 use Rattle.rules.specs.declared.rule.Rule.TheVariants as rule
@@ -179,9 +178,3 @@ module _ {P E : Type 0} (mode : Mode) (contents : Bool) (os ps : List Open) (x :
 
 pub beyond_some : (x : List ℕ) → GoesBeyond Ber x → 0 < length x
 beyond_some x g = omega (arith, ap length g.is, length-append g.header g.behind, header_size Ber g.tag g.form _ g.header g.is_header)
-
-pub due_at : (mode : Mode) (os ps : List Open) (o : Open) (x : List ℕ) → os ≡ o ∷ ps → NotAtEnd mode o x → IsDue mode os x
-due_at mode os ps o x q n = subst (λ k. IsDue mode k x) (sym q) n
-
-pub due_outside : (mode : Mode) (os : List Open) (x : List ℕ) → os ≡ [] → 0 < length x → IsDue mode os x
-due_outside mode os x q n = subst (λ k. IsDue mode k x) (sym q) n

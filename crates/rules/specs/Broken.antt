@@ -14,6 +14,7 @@ use Rattle.rules.specs.Begun.{BeginsValue}
 use Rattle.rules.specs.Comes.{Comes}
 use Rattle.rules.specs.Kinds.{kind_of}
 use Rattle.rules.specs.Means.{HasCharacters, MayBeConstructed}
+use Rattle.rules.specs.Reals.{IsReal, IsStrictReal}
 use Rattle.rules.specs.declared.kind.Kind.{Kind}
 use Rattle.rules.specs.declared.kind.Kind.TheVariants as k
 use Rattle.rules.specs.declared.rule.Rule.{Rule}
@@ -40,9 +41,16 @@ IsString k.Utf8String = ⊤
 IsString k.NumericString = ⊤
 IsString k.PrintableString = ⊤
 IsString k.Ia5String = ⊤
+IsString k.VisibleString = ⊤
+IsString k.UniversalString = ⊤
+IsString k.BmpString = ⊤
 IsString k.UtcTime = ⊤
 IsString k.GeneralizedTime = ⊤
 IsString kind = ⊥
+
+-- a kind of times
+abbrev pub IsTime : Kind → Type 0
+IsTime kind = (kind ≡ k.UtcTime) ⊎ (kind ≡ k.GeneralizedTime)
 
 -- the contents octets c of a primitive value of a kind break a rule at this octet
 abbrev pub BreaksContents : Mode → Kind → List ℕ → Rule → ℕ → Type 0
@@ -59,6 +67,9 @@ BreaksContents mode kind c r.UnusedNotZero n =
 BreaksContents mode kind c r.BitsTooMany n = (kind ≡ k.BitString) × (2 ^ 61 < length c) × (n ≡ 0)
 BreaksContents mode kind c r.StringTooLong n = IsString kind × (mode ≡ Cer) × (1000 < length c) × (n ≡ 0)
 BreaksContents mode kind c (r.Characters other) n = (other ≡ kind) × (HasCharacters mode kind c → ⊥) × (n ≡ 0)
+BreaksContents mode kind c (r.TimeForm other) n = (other ≡ kind) × IsTime kind × (mode ≢ Ber) × (HasCharacters mode kind c → ⊥) × (n ≡ 0)
+BreaksContents mode kind c r.Real n = (kind ≡ k.Real) × (mode ≡ Ber) × (IsReal c → ⊥) × (n ≡ 0)
+BreaksContents mode kind c r.RealForm n = (kind ≡ k.Real) × (mode ≢ Ber) × (IsStrictReal c → ⊥) × (n ≡ 0)
 BreaksContents mode kind c r.NullNotEmpty n = (kind ≡ k.Null) × (0 < length c) × (n ≡ 0)
 BreaksContents mode kind c r.IdentifierCut n = (kind ≡ k.Identifier) × (IsComplete c → ⊥) × (n ≡ length c - 1)
 BreaksContents mode kind c r.IdentifierNotFewest n = (kind ≡ k.Identifier) × IsPadded c n

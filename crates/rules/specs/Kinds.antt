@@ -1,13 +1,12 @@
 -- The kinds of types, by their tags (ITU-T X.680, 8.4).
 use Rattle.std.specs.Prelude.{ℕ, Bool, ◌||◌, ◌==◌, if◌then◌else◌}
-use Rattle.std.specs.Int.{is_in_range}
 use Rattle.bcder.specs.x690.Identifier.{Class, universal, application, context_specific, private, Tag}
 use Rattle.rules.specs.declared.kind.Kind.{Kind}
 use Rattle.rules.specs.declared.kind.Kind.TheVariants as k
 
--- OCTET STRING, ObjectDescriptor, TeletexString, VideotexString, the strings from GraphicString to UniversalString, and BMPString
+-- OCTET STRING, ObjectDescriptor, TeletexString, VideotexString, GraphicString and GeneralString
 abbrev pub is_string : ℕ → Bool
-is_string n = ((n == 4 || n == 7) || (n == 20 || n == 21)) || (is_in_range 25 28 n || n == 30)
+is_string n = ((n == 4 || n == 7) || (n == 20 || n == 21)) || (n == 25 || n == 27)
 
 -- EXTERNAL, EMBEDDED PDV, SEQUENCE, SET, CHARACTER STRING
 abbrev pub is_structure : ℕ → Bool
@@ -20,6 +19,7 @@ kind_of_number n =
     else if n == 3 then k.BitString
     else if n == 5 then k.Null
     else if n == 6 || n == 13 then k.Identifier
+    else if n == 9 then k.Real
     else if is_structure n then k.Structure
     else if n == 12 then k.Utf8String
     else if n == 18 then k.NumericString
@@ -27,6 +27,9 @@ kind_of_number n =
     else if n == 22 then k.Ia5String
     else if n == 23 then k.UtcTime
     else if n == 24 then k.GeneralizedTime
+    else if n == 26 then k.VisibleString
+    else if n == 28 then k.UniversalString
+    else if n == 30 then k.BmpString
     else if is_string n then k.OctetString
     else k.Other
 

@@ -1,7 +1,7 @@
--- Which contents octets mean a value (ITU-T X.690, 8.2 to 8.20, 9.2, 10.2, 11.1, 11.2.1).
+-- Which contents octets mean a value (ITU-T X.690, 8.2 to 8.25, 9.2, 10.2, 11.1, 11.2.1, 11.3, 11.7, 11.8).
 use Rattle.std.specs.Prelude.{◌≡◌, ◌≢◌, ℕ, ℤ, Bool, true, false, List, [], ⊤}
 use Rattle.bcder.specs.declared.mode.Mode.{Mode}
-use Rattle.bcder.specs.declared.mode.Mode.TheVariants.{Ber, Der}
+use Rattle.bcder.specs.declared.mode.Mode.TheVariants.{Ber, Cer, Der}
 use Rattle.bcder.specs.calls.Readers.{IsTruth}
 use Rattle.bcder.specs.x690.AsciiSets.{is_ia5, is_numeric, is_printable, one_octet_step}
 use Rattle.bcder.specs.x690.BitString.{BitShape}
@@ -15,30 +15,57 @@ use Rattle.bcder.specs.x690.Utf8.{utf8_step}
 use Rattle.bcder.specs.x690.Tree.{Tree, primitive, constructed, Trees, no_trees, ◌∷ₜ◌}
 use Rattle.encodings.specs.Pieces.{Piece, value, begins, ends}
 use Rattle.rules.specs.Kinds.{kind_of}
-use Rattle.rules.specs.Times.{IsGeneralizedTime, IsUtcTime}
+use Rattle.rules.specs.Characters.{AreCells, AreCodePoints, AreVisible}
+use Rattle.rules.specs.Reals.{IsReal, IsStrictReal}
+use Rattle.rules.specs.Times.{IsGeneralizedTime, IsGeneralizedTimeInBer, IsUtcTime, IsUtcTimeInBer}
 use Rattle.rules.specs.declared.kind.Kind.{Kind}
 use Rattle.rules.specs.declared.kind.Kind.TheVariants as k
 
--- 8.23, 11.7, 11.8: the octets are characters of the type of a kind, if it names any, and those of a time in CER and DER
+-- 8.25, 11.8: UTCTime
+abbrev pub IsUtcTimeIn : Mode → List ℕ → Type 0
+IsUtcTimeIn Ber c = IsUtcTimeInBer c
+IsUtcTimeIn Cer c = IsUtcTime c
+IsUtcTimeIn Der c = IsUtcTime c
+
+-- 8.25, 11.7: GeneralizedTime
+abbrev pub IsGeneralizedTimeIn : Mode → List ℕ → Type 0
+IsGeneralizedTimeIn Ber c = IsGeneralizedTimeInBer c
+IsGeneralizedTimeIn Cer c = IsGeneralizedTime c
+IsGeneralizedTimeIn Der c = IsGeneralizedTime c
+
+-- 8.5, 11.3: REAL
+abbrev pub IsRealIn : Mode → List ℕ → Type 0
+IsRealIn Ber c = IsReal c
+IsRealIn Cer c = IsStrictReal c
+IsRealIn Der c = IsStrictReal c
+
+-- 8.23, 8.25: the octets are characters of the type of a kind, if it names any, and those of a time in one of its forms
 abbrev pub HasCharacters : Mode → Kind → List ℕ → Type 0
 HasCharacters mode k.Utf8String c = IsOfSet utf8_step c
 HasCharacters mode k.NumericString c = IsOfSet (one_octet_step is_numeric) c
 HasCharacters mode k.PrintableString c = IsOfSet (one_octet_step is_printable) c
 HasCharacters mode k.Ia5String c = IsOfSet (one_octet_step is_ia5) c
-HasCharacters mode k.UtcTime c = mode ≢ Ber → IsUtcTime c
-HasCharacters mode k.GeneralizedTime c = mode ≢ Ber → IsGeneralizedTime c
+HasCharacters mode k.VisibleString c = AreVisible c
+HasCharacters mode k.UniversalString c = AreCodePoints c
+HasCharacters mode k.BmpString c = AreCells c
+HasCharacters mode k.UtcTime c = IsUtcTimeIn mode c
+HasCharacters mode k.GeneralizedTime c = IsGeneralizedTimeIn mode c
 HasCharacters mode kind c = ⊤
 
 -- contents octets of a primitive value of a kind mean one
 abbrev pub MeansOne : Mode → Kind → List ℕ → Type 0
 MeansOne mode k.Boolean c = (b : Bool) × IsTruth mode c b
 MeansOne mode k.Integer c = (z : ℤ) × AreInteger z c
+MeansOne mode k.Real c = IsRealIn mode c
 MeansOne mode k.BitString c = BitShape mode c
 MeansOne mode k.OctetString c = MayBeWhole mode c
 MeansOne mode k.Utf8String c = MayBeWhole mode c × HasCharacters mode k.Utf8String c
 MeansOne mode k.NumericString c = MayBeWhole mode c × HasCharacters mode k.NumericString c
 MeansOne mode k.PrintableString c = MayBeWhole mode c × HasCharacters mode k.PrintableString c
 MeansOne mode k.Ia5String c = MayBeWhole mode c × HasCharacters mode k.Ia5String c
+MeansOne mode k.VisibleString c = MayBeWhole mode c × HasCharacters mode k.VisibleString c
+MeansOne mode k.UniversalString c = MayBeWhole mode c × HasCharacters mode k.UniversalString c
+MeansOne mode k.BmpString c = MayBeWhole mode c × HasCharacters mode k.BmpString c
 MeansOne mode k.UtcTime c = MayBeWhole mode c × HasCharacters mode k.UtcTime c
 MeansOne mode k.GeneralizedTime c = MayBeWhole mode c × HasCharacters mode k.GeneralizedTime c
 MeansOne mode k.Null c = c ≡ []
@@ -46,16 +73,20 @@ MeansOne mode k.Identifier c = IsComplete c × IsMinimal c
 MeansOne mode k.Structure c = ⊥
 MeansOne mode k.Other c = ⊤
 
--- a value of a kind may be constructed: 8.2.1, 8.3.1, 8.8.1, 8.19.1, 8.20.1; strings by 8.6.1, 8.7.1, and in DER by 10.2
+-- a value of a kind may be constructed: 8.2.1, 8.3.1, 8.5.1, 8.8.1, 8.19.1, 8.20.1; strings by 8.6.1, 8.7.1, and in DER by 10.2
 abbrev pub MayBeConstructed : Mode → Kind → Type 0
 MayBeConstructed mode k.Boolean = ⊥
 MayBeConstructed mode k.Integer = ⊥
+MayBeConstructed mode k.Real = ⊥
 MayBeConstructed mode k.BitString = mode ≢ Der
 MayBeConstructed mode k.OctetString = mode ≢ Der
 MayBeConstructed mode k.Utf8String = mode ≢ Der
 MayBeConstructed mode k.NumericString = mode ≢ Der
 MayBeConstructed mode k.PrintableString = mode ≢ Der
 MayBeConstructed mode k.Ia5String = mode ≢ Der
+MayBeConstructed mode k.VisibleString = mode ≢ Der
+MayBeConstructed mode k.UniversalString = mode ≢ Der
+MayBeConstructed mode k.BmpString = mode ≢ Der
 MayBeConstructed mode k.UtcTime = mode ≢ Der
 MayBeConstructed mode k.GeneralizedTime = mode ≢ Der
 MayBeConstructed mode k.Null = ⊥

@@ -1,4 +1,4 @@
--- Times as CER and DER have them (ITU-T X.690, 11.7, 11.8).
+-- Times: as CER and DER have them (ITU-T X.690, 11.7, 11.8), and as BER has them (8.25; X.680, 46, 47).
 use Rattle.std.specs.Prelude.{◌≡◌, ◌≢◌, ◌⊎◌, ℕ, ◌+◌, ◌-◌, ◌<◌, ◌≤◌, List, length, slice_index}
 
 -- these octets are digits
@@ -34,3 +34,50 @@ pub record IsGeneralizedTime (c : List ℕ) : Type 0 where
   pub digits : AreDigits c 0 14
   pub hour : IsHour c 8
   pub ends : EndsTime c
+
+-- ---- in BER (8.25; X.680, 46, 47)
+
+-- a sign and so many digits, of which the first two are an hour, are behind the first n octets, and end them
+abbrev pub HasDifference : List ℕ → ℕ → ℕ → Type 0
+HasDifference c n digits =
+    (n + 1 + digits ≡ length c) × ((slice_index c n ≡ 0x2B) ⊎ (slice_index c n ≡ 0x2D)) × AreDigits c (n + 1) (length c) × IsHour c (n + 1)
+
+-- Z is behind the first n octets, and ends them
+abbrev pub HasZ : List ℕ → ℕ → Type 0
+HasZ c n = (n + 1 ≡ length c) × (slice_index c n ≡ 0x5A)
+
+-- X.680, 47.3: n digits, and then Z, +hhmm or -hhmm
+abbrev pub IsUtcTimeOf : List ℕ → ℕ → Type 0
+IsUtcTimeOf c n = AreDigits c 0 n × IsHour c 6 × (HasZ c n ⊎ HasDifference c n 4)
+
+-- X.680, 47.3: YYMMDDhhmm or YYMMDDhhmmss, and then Z or a difference
+abbrev pub IsUtcTimeInBer : List ℕ → Type 0
+IsUtcTimeInBer c = IsUtcTimeOf c 10 ⊎ IsUtcTimeOf c 12
+
+-- a comma or a full stop, and digits up to the first n octets
+abbrev pub IsFraction : List ℕ → ℕ → ℕ → Type 0
+IsFraction c from n =
+    (from + 2 ≤ n) × ((slice_index c from ≡ 0x2C) ⊎ (slice_index c from ≡ 0x2E)) × AreDigits c (from + 1) n
+
+-- the first n octets are so many digits, with a fraction of the last unit or without
+abbrev pub IsLocalTimeOf : List ℕ → ℕ → ℕ → Type 0
+IsLocalTimeOf c digits n = AreDigits c 0 digits × ((digits ≡ n) ⊎ IsFraction c digits n)
+
+-- X.680, 46.3 a: the first n octets are YYYYMMDDhh, YYYYMMDDhhmm or YYYYMMDDhhmmss, with a fraction or without
+pub record IsLocalTime (c : List ℕ) (n : ℕ) : Type 0 where
+  pub hour : IsHour c 8
+  pub digits : IsLocalTimeOf c 10 n ⊎ IsLocalTimeOf c 12 n ⊎ IsLocalTimeOf c 14 n
+
+-- X.680, 46.3 b: with Z behind it
+pub record IsTimeWithZ (c : List ℕ) : Type 0 where
+  pub local : IsLocalTime c (length c - 1)
+  pub end : HasZ c (length c - 1)
+
+-- X.680, 46.3 c: with a difference of so many digits behind it
+pub record IsTimeWithDifference (c : List ℕ) (digits : ℕ) : Type 0 where
+  pub local : IsLocalTime c (length c - (digits + 1))
+  pub end : HasDifference c (length c - (digits + 1)) digits
+
+-- X.680, 46.3: a local time, with Z, +hhmm, -hhmm, +hh, -hh or nothing behind it
+abbrev pub IsGeneralizedTimeInBer : List ℕ → Type 0
+IsGeneralizedTimeInBer c = IsLocalTime c (length c) ⊎ IsTimeWithZ c ⊎ IsTimeWithDifference c 4 ⊎ IsTimeWithDifference c 2

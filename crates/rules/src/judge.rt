@@ -6,12 +6,17 @@ ghost use Rattle.bcder.specs.calls.Readers.{IsTruth};
 ghost use Rattle.bcder.specs.x690.OctetString.{MayBeWhole};
 ghost use Rattle.rules.specs.Broken.{BreaksContents, BreaksForm, BreaksValue, IsPadded, IsString};
 ghost use Rattle.rules.specs.declared.kind.Kind.TheVariants as k;
-ghost use Rattle.rules.specs.Means.{HasCharacters, IsMeantAlone};
+ghost use Rattle.rules.specs.Means.{HasCharacters, IsGeneralizedTimeIn, IsMeantAlone};
+ghost use Rattle.rules.specs.Means.{IsUtcTimeIn};
 ghost use Rattle.rules.specs.Means.{MayBeConstructed, MeansOne};
 
+use crate::characters::{is_bmp_string, is_universal_string, is_visible_string};
 use crate::kind::{Kind, kind_of};
+use crate::real::{is_real, is_strict_real};
 use crate::rule::Rule;
-use crate::time::{is_generalized_time, is_utc_time};
+use crate::time::{
+    is_generalized_time, is_generalized_time_in_ber, is_utc_time, is_utc_time_in_ber,
+};
 use bcder::{Mode, Tag};
 use encodings::bits::unused_bits;
 use encodings::contents::{boolean_of, is_object_identifier};
@@ -24,7 +29,7 @@ fn form_broken(mode: Mode, kind: Kind) -> Option<Rule>
     ensures meant { IfNone result (MayBeConstructed mode kind) }
 {
     match kind {
-        Kind::Boolean | Kind::Integer | Kind::Null | Kind::Identifier => {
+        Kind::Boolean | Kind::Integer | Kind::Real | Kind::Null | Kind::Identifier => {
             Some(Rule::NotPrimitive(kind))
         }
         Kind::BitString
@@ -33,6 +38,9 @@ fn form_broken(mode: Mode, kind: Kind) -> Option<Rule>
         | Kind::NumericString
         | Kind::PrintableString
         | Kind::Ia5String
+        | Kind::VisibleString
+        | Kind::UniversalString
+        | Kind::BmpString
         | Kind::UtcTime
         | Kind::GeneralizedTime => match mode {
             Mode::Der => Some(Rule::StringCut),
@@ -144,8 +152,69 @@ fn is_strict(mode: Mode) -> bool
     }
 }
 
+/// Returns whether the octets are contents octets of a UTCTime in a mode.
+fn is_utc_time_in(mode: Mode, contents: &[u8]) -> bool
+    ensures { IsTrue result ↔ IsUtcTimeIn mode contents.now }
+{
+    match mode {
+        Mode::Ber => is_utc_time_in_ber(contents),
+        Mode::Cer | Mode::Der => is_utc_time(contents),
+    }
+}
+
+/// Returns whether the octets are contents octets of a GeneralizedTime in a mode.
+fn is_generalized_time_in(mode: Mode, contents: &[u8]) -> bool
+    ensures { IsTrue result ↔ IsGeneralizedTimeIn mode contents.now }
+{
+    match mode {
+        Mode::Ber => is_generalized_time_in_ber(contents),
+        Mode::Cer | Mode::Der => is_generalized_time(contents),
+    }
+}
+
+/// Returns what contents octets of a REAL break.
+fn real_broken(mode: Mode, contents: &[u8]) -> Option<Rule>
+    ensures broken { IfSome result (λ rule. BreaksContents mode k.Real contents.now rule 0) }
+    ensures unmeant { IfSome result (λ rule. MeansOne mode k.Real contents.now → ⊥) }
+    ensures meant { IfNone result (MeansOne mode k.Real contents.now) }
+{
+    match mode {
+        Mode::Ber => {
+            if is_real(contents) {
+                None
+            } else {
+                Some(Rule::Real)
+            }
+        }
+        Mode::Cer | Mode::Der => {
+            if is_strict_real(contents) {
+                None
+            } else {
+                Some(Rule::RealForm)
+            }
+        }
+    }
+}
+
+/// Returns the rule that octets break which aren't characters of the type of a kind.
+fn characters_rule(mode: Mode, kind: Kind, contents: &[u8]) -> Rule
+    requires { HasCharacters mode kind contents.now → ⊥ }
+    ensures { BreaksContents mode kind contents.now result 0 }
+{
+    match kind {
+        Kind::UtcTime | Kind::GeneralizedTime => {
+            if is_strict(mode) {
+                Rule::TimeForm(kind)
+            } else {
+                Rule::Characters(kind)
+            }
+        }
+        _ => Rule::Characters(kind),
+    }
+}
+
 /// Returns whether octets are characters of the type of a kind, if it names any, and those of a
-/// time in CER and DER.
+/// time in one of its forms.
 fn has_characters(mode: Mode, kind: Kind, contents: &[u8]) -> bool
     ensures { IsTrue result ↔ HasCharacters mode kind contents.now }
 {
@@ -154,8 +223,11 @@ fn has_characters(mode: Mode, kind: Kind, contents: &[u8]) -> bool
         Kind::NumericString => is_numeric_string(contents),
         Kind::PrintableString => is_printable_string(contents),
         Kind::Ia5String => is_ia5_string(contents),
-        Kind::UtcTime => !is_strict(mode) || is_utc_time(contents),
-        Kind::GeneralizedTime => !is_strict(mode) || is_generalized_time(contents),
+        Kind::VisibleString => is_visible_string(contents),
+        Kind::UniversalString => is_universal_string(contents),
+        Kind::BmpString => is_bmp_string(contents),
+        Kind::UtcTime => is_utc_time_in(mode, contents),
+        Kind::GeneralizedTime => is_generalized_time_in(mode, contents),
         _ => true,
     }
 }
@@ -173,7 +245,7 @@ fn string_broken(mode: Mode, kind: Kind, contents: &[u8]) -> Option<Rule>
         return Some(Rule::StringTooLong);
     }
     if !has_characters(mode, kind, contents) {
-        return Some(Rule::Characters(kind));
+        return Some(characters_rule(mode, kind, contents));
     }
     None
 }
@@ -248,12 +320,16 @@ fn contents_broken(mode: Mode, kind: Kind, contents: &[u8]) -> Option<(Rule, usi
     match kind {
         Kind::Boolean => at_first(boolean_broken(mode, contents)),
         Kind::Integer => at_first(integer_broken(mode, contents)),
+        Kind::Real => at_first(real_broken(mode, contents)),
         Kind::BitString => bits_broken(mode, contents),
         Kind::OctetString => at_first(string_broken(mode, kind, contents)),
         Kind::Utf8String => at_first(string_broken(mode, kind, contents)),
         Kind::NumericString => at_first(string_broken(mode, kind, contents)),
         Kind::PrintableString => at_first(string_broken(mode, kind, contents)),
         Kind::Ia5String => at_first(string_broken(mode, kind, contents)),
+        Kind::VisibleString => at_first(string_broken(mode, kind, contents)),
+        Kind::UniversalString => at_first(string_broken(mode, kind, contents)),
+        Kind::BmpString => at_first(string_broken(mode, kind, contents)),
         Kind::UtcTime => at_first(string_broken(mode, kind, contents)),
         Kind::GeneralizedTime => at_first(string_broken(mode, kind, contents)),
         Kind::Null => at_first(null_broken(mode, contents)),

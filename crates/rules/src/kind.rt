@@ -13,6 +13,9 @@ pub enum Kind {
     /// INTEGER and ENUMERATED.
     Integer,
 
+    /// REAL.
+    Real,
+
     /// BIT STRING.
     BitString,
 
@@ -31,6 +34,15 @@ pub enum Kind {
 
     /// IA5String.
     Ia5String,
+
+    /// VisibleString.
+    VisibleString,
+
+    /// UniversalString.
+    UniversalString,
+
+    /// BMPString.
+    BmpString,
 
     /// UTCTime.
     UtcTime,
@@ -64,6 +76,7 @@ pub(crate) fn kind_of(tag: Tag) -> Kind
         3 => Kind::BitString,
         5 => Kind::Null,
         6 | 13 => Kind::Identifier,
+        9 => Kind::Real,
         8 | 11 | 16 | 17 | 29 => Kind::Structure,
         12 => Kind::Utf8String,
         18 => Kind::NumericString,
@@ -71,7 +84,10 @@ pub(crate) fn kind_of(tag: Tag) -> Kind
         22 => Kind::Ia5String,
         23 => Kind::UtcTime,
         24 => Kind::GeneralizedTime,
-        4 | 7 | 20 | 21 | 25..=28 | 30 => Kind::OctetString,
+        26 => Kind::VisibleString,
+        28 => Kind::UniversalString,
+        30 => Kind::BmpString,
+        4 | 7 | 20 | 21 | 25 | 27 => Kind::OctetString,
         _ => Kind::Other,
     }
 }

@@ -5,8 +5,10 @@
 #![tactic(auto)]
 
 mod begun;
+mod characters;
 mod judge;
 pub mod kind;
+mod real;
 pub mod rule;
 mod text;
 mod time;

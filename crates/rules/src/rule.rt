@@ -61,9 +61,18 @@ pub enum Rule {
     /// In CER, a primitive string has more than 1000 contents octets (9.2).
     StringTooLong,
 
-    /// The octets of a string aren't characters of its type (8.23), or, in CER or DER, those of a
-    /// time not in its one form (11.7, 11.8).
+    /// The octets of a string aren't characters of its type (8.23), or, in BER, those of a time in
+    /// none of its forms (8.25).
     Characters(Kind),
+
+    /// In CER or DER, a time isn't in its one form (11.7, 11.8).
+    TimeForm(Kind),
+
+    /// In BER, the contents octets of a REAL are in none of its forms (8.5).
+    Real,
+
+    /// In CER or DER, a REAL isn't in its one form (11.3).
+    RealForm,
 
     /// A NULL has contents octets (8.8.2).
     NullNotEmpty,

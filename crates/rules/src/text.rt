@@ -3,7 +3,8 @@ ghost use Rattle.std.specs.Prelude.{◌≡◌};
 ghost use Rattle.rules.specs.Texts.{characters_clause, characters_wanted, clause_of};
 ghost use Rattle.rules.specs.Texts.{constructed_text};
 ghost use Rattle.rules.specs.Texts.{header_clause, header_wanted, no_characters};
-ghost use Rattle.rules.specs.Texts.{primitive_clause, title_of, wanted_of};
+ghost use Rattle.rules.specs.Texts.{primitive_clause, time_clause, time_title, time_wanted};
+ghost use Rattle.rules.specs.Texts.{title_of, wanted_of};
 
 use crate::kind::Kind;
 use crate::rule::Rule;
@@ -17,6 +18,7 @@ fn constructed(kind: Kind) -> &'static str
     match kind {
         Kind::Boolean => "constructed BOOLEAN",
         Kind::Integer => "constructed INTEGER or ENUMERATED",
+        Kind::Real => "constructed REAL",
         Kind::Null => "constructed NULL",
         Kind::Identifier => "constructed OBJECT IDENTIFIER or RELATIVE-OID",
         _ => "constructed value",
@@ -30,6 +32,7 @@ fn primitive_clause(kind: Kind) -> &'static str
     match kind {
         Kind::Boolean => "8.2.1",
         Kind::Integer => "8.3.1",
+        Kind::Real => "8.5.1",
         Kind::Null => "8.8.1",
         Kind::Identifier => "8.19.1",
         _ => "8.1.2.5",
@@ -45,8 +48,11 @@ fn no_characters(kind: Kind) -> &'static str
         Kind::NumericString => "NumericString with other characters",
         Kind::PrintableString => "PrintableString with other characters",
         Kind::Ia5String => "IA5String with other characters",
-        Kind::UtcTime => "UTCTime in another form",
-        Kind::GeneralizedTime => "GeneralizedTime in another form",
+        Kind::VisibleString => "VisibleString with other characters",
+        Kind::UniversalString => "UniversalString with other characters",
+        Kind::BmpString => "BMPString with other characters",
+        Kind::UtcTime => "UTCTime that isn't a time",
+        Kind::GeneralizedTime => "GeneralizedTime that isn't a time",
         _ => "string with other characters",
     }
 }
@@ -57,8 +63,9 @@ fn characters_clause(kind: Kind) -> &'static str
 {
     match kind {
         Kind::Utf8String => "8.23.10",
-        Kind::UtcTime => "11.8",
-        Kind::GeneralizedTime => "11.7",
+        Kind::UniversalString => "8.23.7",
+        Kind::BmpString => "8.23.8",
+        Kind::UtcTime | Kind::GeneralizedTime => "8.25",
         _ => "8.23.5",
     }
 }
@@ -68,9 +75,40 @@ fn characters_wanted(kind: Kind) -> &'static str
     ensures { result.now ≡ characters_wanted kind }
 {
     match kind {
-        Kind::UtcTime => "YYMMDDhhmmssZ",
-        Kind::GeneralizedTime => "YYYYMMDDhhmmssZ, with .f before Z if f isn't 0",
+        Kind::UtcTime => "YYMMDDhhmm[ss] with Z or +hhmm",
+        Kind::GeneralizedTime => "YYYYMMDDhh[mm[ss]][.f] with Z, +hh[mm] or nothing",
         _ => "characters of the type",
+    }
+}
+
+/// Returns what a time in CER or DER is called that isn't in its one form.
+fn time_title(kind: Kind) -> &'static str
+    ensures { result.now ≡ time_title kind }
+{
+    match kind {
+        Kind::UtcTime => "UTCTime in another form",
+        Kind::GeneralizedTime => "GeneralizedTime in another form",
+        _ => "time in another form",
+    }
+}
+
+/// Returns the clause of that form.
+fn time_clause(kind: Kind) -> &'static str
+    ensures { result.now ≡ time_clause kind }
+{
+    match kind {
+        Kind::UtcTime => "11.8",
+        _ => "11.7",
+    }
+}
+
+/// Returns that form.
+fn time_wanted(kind: Kind) -> &'static str
+    ensures { result.now ≡ time_wanted kind }
+{
+    match kind {
+        Kind::UtcTime => "YYMMDDhhmmssZ",
+        _ => "YYYYMMDDhhmmssZ, with .f before Z if f isn't 0",
     }
 }
 
@@ -142,6 +180,9 @@ impl Rule {
             Rule::BitsTooMany => "BIT STRING of 2^61 octets or more",
             Rule::StringTooLong => "primitive string of over 1000 octets in CER",
             Rule::Characters(kind) => no_characters(kind),
+            Rule::TimeForm(kind) => time_title(kind),
+            Rule::Real => "REAL that isn't one",
+            Rule::RealForm => "REAL in another form",
             Rule::NullNotEmpty => "NULL with contents octets",
             Rule::IdentifierCut => "OBJECT IDENTIFIER without an end",
             Rule::IdentifierNotFewest => "subidentifier not in the fewest octets",
@@ -171,6 +212,9 @@ impl Rule {
             Rule::BitsTooMany => "8.6.2",
             Rule::StringTooLong => "9.2",
             Rule::Characters(kind) => characters_clause(kind),
+            Rule::TimeForm(kind) => time_clause(kind),
+            Rule::Real => "8.5",
+            Rule::RealForm => "11.3",
             Rule::NullNotEmpty => "8.8.2",
             Rule::IdentifierCut | Rule::IdentifierNotFewest => "8.19.2",
         }
@@ -199,6 +243,9 @@ impl Rule {
             Rule::BitsTooMany => "fewer octets, by the limit here",
             Rule::StringTooLong => "segments of 1000 octets",
             Rule::Characters(kind) => characters_wanted(kind),
+            Rule::TimeForm(kind) => time_wanted(kind),
+            Rule::Real => "no octets, 40 to 43, or a binary or decimal encoding",
+            Rule::RealForm => "base 2 with an odd number, or NR3, in the fewest octets",
             Rule::NullNotEmpty => "no octets",
             Rule::IdentifierCut => "an octet below 80 at the end",
             Rule::IdentifierNotFewest => "another octet than 80",

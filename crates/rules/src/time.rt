@@ -1,7 +1,10 @@
-//! Times as CER and DER have them (X.690, 11.7, 11.8).
+//! Times as CER and DER have them (X.690, 11.7, 11.8), and as BER has them (X.680, 46, 47).
 ghost use Rattle.std.specs.Prelude.{◌↔◌, ◌+◌, ◌<◌, ◌≤◌, length, IsTrue};
 ghost use Rattle.rules.specs.Times.{AreDigits, EndsTime, HasFraction, IsGeneralizedTime};
 ghost use Rattle.rules.specs.Times.{IsHour, IsUtcTime};
+ghost use Rattle.rules.specs.Times.{HasDifference, HasZ, IsFraction, IsGeneralizedTimeInBer};
+ghost use Rattle.rules.specs.Times.{IsLocalTime, IsLocalTimeOf, IsTimeWithDifference};
+ghost use Rattle.rules.specs.Times.{IsTimeWithZ, IsUtcTimeInBer, IsUtcTimeOf};
 
 /// Returns whether these octets are digits.
 fn are_digits(octets: &[u8], from: usize, to: usize) -> bool
@@ -59,4 +62,117 @@ pub(crate) fn is_generalized_time(octets: &[u8]) -> bool
     ensures { IsTrue result ↔ IsGeneralizedTime octets.now }
 {
     octets.len() >= 15 && are_digits(octets, 0, 14) && is_hour(octets, 8) && ends_time(octets)
+}
+
+/// Returns whether `Z` is behind the first octets, and ends them.
+fn has_z(octets: &[u8], at: usize) -> bool
+    ensures { IsTrue result ↔ HasZ octets.now at }
+{
+    at < octets.len() && octets.len() - at == 1 && octets[at] == b'Z'
+}
+
+/// Returns whether a sign and so many digits of an hour and minutes are behind the first octets,
+/// and end them.
+fn has_difference(octets: &[u8], at: usize, digits: usize) -> bool
+    requires { 2 ≤ digits }
+    ensures { IsTrue result ↔ HasDifference octets.now at digits }
+{
+    if at >= octets.len() || octets.len() - at - 1 != digits {
+        return false;
+    }
+    (octets[at] == b'+' || octets[at] == b'-')
+        && are_digits(octets, at + 1, octets.len())
+        && is_hour(octets, at + 1)
+}
+
+/// Returns whether the octets are so many digits of a UTCTime and what may follow them.
+fn is_utc_time_of(octets: &[u8], digits: usize) -> bool
+    requires { 8 ≤ digits }
+    ensures { IsTrue result ↔ IsUtcTimeOf octets.now digits }
+{
+    if digits > octets.len() {
+        return false;
+    }
+    are_digits(octets, 0, digits)
+        && is_hour(octets, 6)
+        && (has_z(octets, digits) || has_difference(octets, digits, 4))
+}
+
+/// Returns whether the octets are contents octets of a UTCTime in BER (X.680, 47.3).
+pub(crate) fn is_utc_time_in_ber(octets: &[u8]) -> bool
+    ensures { IsTrue result ↔ IsUtcTimeInBer octets.now }
+{
+    is_utc_time_of(octets, 10) || is_utc_time_of(octets, 12)
+}
+
+/// Returns whether a decimal mark and digits are at a place, up to another.
+fn is_fraction(octets: &[u8], from: usize, to: usize) -> bool
+    requires { to ≤ length octets.now }
+    ensures { IsTrue result ↔ IsFraction octets.now from to }
+{
+    from < to
+        && to - from >= 2
+        && (octets[from] == b',' || octets[from] == b'.')
+        && are_digits(octets, from + 1, to)
+}
+
+/// Returns whether the first octets are so many digits, with a fraction of the last unit or without.
+fn is_local_time_of(octets: &[u8], digits: usize, to: usize) -> bool
+    requires { to ≤ length octets.now }
+    ensures { IsTrue result ↔ IsLocalTimeOf octets.now digits to }
+{
+    digits <= to
+        && are_digits(octets, 0, digits)
+        && (digits == to || is_fraction(octets, digits, to))
+}
+
+/// Returns whether the first octets are a local time (X.680, 46.3 a).
+fn is_local_time(octets: &[u8], to: usize) -> bool
+    requires { to ≤ length octets.now }
+    ensures { IsTrue result ↔ IsLocalTime octets.now to }
+{
+    to >= 10
+        && is_hour(octets, 8)
+        && (is_local_time_of(octets, 10, to)
+            || is_local_time_of(octets, 12, to)
+            || is_local_time_of(octets, 14, to))
+}
+
+/// Returns whether the octets are a local time and `Z` (X.680, 46.3 b).
+fn is_time_with_z(octets: &[u8]) -> bool
+    ensures { IsTrue result ↔ IsTimeWithZ octets.now }
+{
+    if octets.is_empty() {
+        return false;
+    }
+    let before = octets.len() - 1;
+    is_local_time(octets, before) && has_z(octets, before)
+}
+
+/// Returns whether the octets are a local time and a difference of so many digits (X.680, 46.3 c).
+fn is_time_with_difference(octets: &[u8], digits: usize) -> bool
+    requires { 2 ≤ digits }
+    ensures { IsTrue result ↔ IsTimeWithDifference octets.now digits }
+{
+    if octets.len() <= digits {
+        return false;
+    }
+    let before = octets.len() - (digits + 1);
+    is_local_time(octets, before) && has_difference(octets, before, digits)
+}
+
+/// Returns whether the octets are contents octets of a GeneralizedTime in BER (X.680, 46.3).
+pub(crate) fn is_generalized_time_in_ber(octets: &[u8]) -> bool
+    ensures { IsTrue result ↔ IsGeneralizedTimeInBer octets.now }
+{
+    if is_local_time(octets, octets.len()) {
+        return true;
+    }
+    if is_time_with_z(octets) {
+        return true;
+    }
+    if is_time_with_difference(octets, 4) {
+        return true;
+    }
+    is_time_with_difference(octets, 2)
 }

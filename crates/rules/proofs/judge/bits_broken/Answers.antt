@@ -1,5 +1,3 @@
-use Rattle.std.proofs.Common.{◌≡◌, ℕ, List, [], ◌∷◌, refl}
-use Rattle.bcder.specs.x690.BitString.{BitShape}
 use Rattle.rules.proofs.Contents.{no_bits}
 use Rattle.rules.proofs.judge.bits_broken.Goals as goal
 

@@ -1,4 +1,4 @@
-use Rattle.std.proofs.Common.{◌≡◌, length, refl, arith, rules}
+use Rattle.std.proofs.Common.{refl, arith, rules}
 use Rattle.bcder.specs.x690.Identifier.{AreOctets}
 use Rattle.encodings.proofs.WholeWalk.{none_open}
 use Rattle.rules.proofs.Going.{nothing_in}

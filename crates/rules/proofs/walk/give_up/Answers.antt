@@ -1,4 +1,4 @@
-use Rattle.std.proofs.Common.{◌≡◌, ◌∷◌, option_map, Some, None, ap, sym, ◌∙◌, rules}
+use Rattle.std.proofs.Common.{◌≡◌, ◌∷◌, option_map, ap, ◌∙◌, rules}
 use Rattle.encodings.specs.Open.{open_values}
 use Rattle.encodings.proofs.WholeWalk.{none_open}
 use Rattle.rules.proofs.Going.{innermost, nothing_in, up_marked, up_definite, up_all}

@@ -1,4 +1,3 @@
-use Rattle.std.proofs.Common.{rules}
 use Rattle.std.proofs.lemmas.Result.{on_ok_weaker}
 use Rattle.rules.proofs.Telling.{looks_told}
 use Rattle.rules.proofs.walk.look.Goals as goal

@@ -1,4 +1,4 @@
-use Rattle.std.proofs.Common.{◌≡◌, ◌∷◌, refl, sym, ap, subst, arith, rules}
+use Rattle.std.proofs.Common.{subst, arith}
 use Rattle.encodings.specs.Open.{open_values}
 use Rattle.rules.specs.Broken.{Breaks}
 use Rattle.rules.proofs.Telling.{adds_one, longer_by_one, beyond_some}

@@ -1,4 +1,4 @@
-use Rattle.std.proofs.Common.{refl, arith, rules}
+use Rattle.std.proofs.Common.{arith}
 use Rattle.rules.proofs.Telling.{adds_one, told_before}
 use Rattle.rules.proofs.walk.pass_broken.Goals as goal
 

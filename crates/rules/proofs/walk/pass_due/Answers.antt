@@ -1,4 +1,4 @@
-use Rattle.std.proofs.Common.{arith, rules}
+use Rattle.std.proofs.Common.{arith}
 use Rattle.bcder.specs.x690.Identifier.{AreOctets}
 use Rattle.rules.proofs.Beginning.{value_in_ber, beyond_in_ber}
 use Rattle.rules.proofs.Telling.{value_due, beyond_due, broken_due}

@@ -1,4 +1,4 @@
-use Rattle.std.proofs.Common.{◌≡◌, ◌∷◌, ◌+◌, option_map, None, Some, refl, sym, ap, ◌∙◌, arith, rules}
+use Rattle.std.proofs.Common.{◌≡◌, ◌∷◌, option_map, None, refl, ap, ◌∙◌, arith, rules}
 use Rattle.encodings.specs.Open.{open_values}
 use Rattle.rules.specs.Broken.{missing_end}
 use Rattle.rules.proofs.Going.{innermost, nothing_in, due_in_nothing, missing_passed}

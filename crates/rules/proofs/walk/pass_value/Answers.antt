@@ -1,7 +1,7 @@
-use Rattle.std.proofs.Common.{◌≡◌, ◌+◌, ◌≤◌, length, option_map, None, ap, arith, rules}
+use Rattle.std.proofs.Common.{arith}
 use Rattle.encodings.specs.Open.{open_values}
 use Rattle.encodings.proofs.WholeWalk.{come_within}
-use Rattle.rules.proofs.Going.{value_inside, marked_form}
+use Rattle.rules.proofs.Going.{value_inside}
 use Rattle.rules.proofs.Telling.{value_looked_at}
 use Rattle.rules.proofs.walk.pass_value.Goals as goal
 

@@ -1,5 +1,5 @@
-use Rattle.std.proofs.Common.{refl, rules}
-use Rattle.rules.specs.Comes.{no_header, goes_beyond}
+use Rattle.std.proofs.Common.{refl}
+use Rattle.rules.specs.Comes.{no_header}
 use Rattle.rules.proofs.Telling.{adds_nothing, only_onward, broken_onward}
 use Rattle.rules.proofs.walk.recover.Goals as goal
 

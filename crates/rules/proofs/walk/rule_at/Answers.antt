@@ -1,4 +1,4 @@
-use Rattle.std.proofs.Common.{refl, rules}
+use Rattle.std.proofs.Common.{refl}
 use Rattle.rules.specs.Broken.{in_header}
 use Rattle.rules.proofs.Telling.{stray_here}
 use Rattle.rules.proofs.walk.rule_at.Goals as goal
