@@ -14,7 +14,7 @@ ghost use Rattle.berdump.specs.Walk.{PassesContents, Meets, Stops, left};
 
 use crate::heading::Heading;
 use crate::held::{gone_into, held_in};
-use crate::note::add_note;
+use crate::note::{Manner, add_note};
 use crate::opened::{Open, close};
 use crate::scope::{Scope, is_shown};
 use bcder::decode::Violation;
@@ -97,15 +97,12 @@ fn note_of(
         return Ok(String::new(alloc));
     }
     let mut note = String::new(alloc);
-    add_note(
+    let manner = Manner {
         alloc,
-        &mut note,
         mode,
-        scope.whole,
-        heading.tag,
-        contents,
-        holds,
-    )?;
+        whole: scope.whole,
+    };
+    add_note(manner, &mut note, heading.tag, contents, holds)?;
     if !is_clean(note.as_str()) {
         return Ok(String::new(alloc));
     }

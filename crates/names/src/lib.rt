@@ -113,3 +113,63 @@ pub fn name_of(number: &str) -> Option<&'static str>
 {
     name_in(table_for(number).text(), number)
 }
+
+#[cfg(test)]
+mod tests {
+    use super::*;
+    use crate::table::Table;
+    use std::test::Fail;
+
+    /// All tables.
+    const TABLES: [Table; 13] = [
+        Table::Attributes,
+        Table::Directory,
+        Table::Countries,
+        Table::Joint,
+        Table::Pkcs9,
+        Table::Rsa,
+        Table::UnitedStates,
+        Table::Members,
+        Table::Pkix,
+        Table::Enterprises,
+        Table::Internet,
+        Table::Organizations,
+        Table::Itu,
+    ];
+
+    /// Returns how many lines of a table are found, each by its number.
+    fn found_in(text: &str) -> (usize, usize) {
+        let mut lines = 0usize;
+        let mut found = 0usize;
+        for line in text.lines() {
+            lines = lines.wrapping_add(1);
+            if let Some((number, name)) = line.split_once(' ') {
+                if name_of(number) == Some(name) {
+                    found = found.wrapping_add(1);
+                }
+            }
+        }
+        (lines, found)
+    }
+
+    #[test]
+    fn each_line_is_found(rt: HostRuntime) -> Result<(), Fail> {
+        let mut all = 0usize;
+        for table in TABLES {
+            let (lines, found) = found_in(table.text());
+            assert_eq!(rt; found, lines);
+            all = all.wrapping_add(lines);
+        }
+        assert_eq!(rt; all, 1260);
+        Ok(())
+    }
+
+    #[test]
+    fn others_have_no_name(rt: HostRuntime) -> Result<(), Fail> {
+        assert!(rt; name_of("").is_none());
+        assert!(rt; name_of("2.5.4.").is_none());
+        assert!(rt; name_of("2.5.4.3.0").is_none());
+        assert!(rt; name_of("3.5.4.3").is_none());
+        Ok(())
+    }
+}

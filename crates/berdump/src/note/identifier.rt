@@ -1,0 +1,42 @@
+//! Object identifiers.
+use crate::note::{Manner, add_fault, fault, hexadecimal};
+use bcder::NoMemory;
+use encodings::identifier::store_text;
+use encodings::status::DONE;
+use names::name_of;
+
+/// Returns the octets of an identifier's number, such as `2.5.4.3`. There are none if a component
+/// has more than 128 bits.
+fn number_of(manner: Manner, octets: &[u8]) -> Result<Vec<u8>, NoMemory> {
+    let mut number = Vec::new(manner.alloc);
+    let mut size = 0;
+    let _room = store_text(octets, &mut number, &mut size);
+    number.resize(size, 0u8)?;
+    if store_text(octets, &mut number, &mut size) != DONE {
+        number.clear();
+    }
+    Ok(number)
+}
+
+/// Appends a number, with its name if the tables have one for it.
+fn add_number(text: &mut String, number: &str) -> Result<(), NoMemory> {
+    write!(text, " :{number}")?;
+    if let Some(name) = name_of(number) {
+        write!(text, " ({name})")?;
+    }
+    Ok(())
+}
+
+/// Appends what contents octets of an OBJECT IDENTIFIER mean.
+pub(crate) fn add(manner: Manner, text: &mut String, octets: &[u8]) -> Result<(), NoMemory> {
+    let fault = fault::identifier(octets);
+    if fault.is_some() {
+        hexadecimal::add(manner, text, octets)?;
+        return add_fault(text, fault);
+    }
+    let number = number_of(manner, octets)?;
+    match str::from_utf8(&number) {
+        Ok(number) if !number.is_empty() => add_number(text, number),
+        _ => hexadecimal::add(manner, text, octets),
+    }
+}
