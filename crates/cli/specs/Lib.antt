@@ -3,3 +3,4 @@ pub mod Armor
 pub mod Shown
 pub mod Pem
 pub mod Spelling
+pub mod Status

@@ -1,16 +1,17 @@
 -- Blocks of text (RFC 7468).
 use Rattle.std.specs.Prelude.{◌≡◌, ◌≢◌, ◌<◌, ◌≤◌, ◌⊎◌, ℕ, Bool, true, false, List, [], ◌∷◌, ◌++◌, length, reverse, codes, nat_eq, ◌||◌}
-use Rattle.std.specs.Prelude.{if◌then◌else◌, Ok, Err, Result}
+use Rattle.std.specs.Prelude.{if◌then◌else◌, Option, Some, None, Ok, Err, Result, MatchResult, ⊤}
 use lib.Pointwise.{pointwise}
 use Rattle.std.specs.Borrow.{Bor}
 use Rattle.std.specs.Str.{IsTrimAscii, IsTrimAsciiEnd}
+use Rattle.cli.specs.declared.form.Form.{Form}
+use Rattle.cli.specs.declared.form.Form.TheVariants as form
 use Rattle.cli.specs.declared.pem.Block.{Block}
+use Rattle.cli.specs.declared.pem.BlockError.{BlockError}
+use Rattle.cli.specs.declared.pem.BlockError.TheVariants as error
 use Rattle.cli.specs.declared.pem.Unended.{Unended}
 use Rattle.cli.specs.declared.pem.Unended.TheVariants as unended
-
--- a block may begin in the octets
-abbrev pub MayBegin : List ℕ → Type 0
-MayBegin octets = (before behind : List ℕ) × (octets ≡ before ++ (codes "-----BEGIN " ++ behind))
+use Rattle.cli.specs.Spelling.{SpellsBase64, SpellsNoBase64}
 
 -- ---- marks in octets
 
@@ -94,6 +95,38 @@ pub record IsNext (octets : List ℕ) (b : Block) : Type 0 where
 abbrev pub HasNoBlock : List ℕ → Type 0
 HasNoBlock octets = (x y : List ℕ) → octets ≡ x ++ (codes "-----BEGIN " ++ y) → IsNoBlock x y
 
+-- octets of this form are blocks: if it isn't told, those in which one begins; and they are none
+abbrev pub HasBlocks : Option Form → List ℕ → Type 0
+HasBlocks (Some f) octets = f ≡ form.Pem
+HasBlocks None octets = (block : Block) × IsNext octets block
+
+abbrev pub HasNoBlocks : Option Form → List ℕ → Type 0
+HasNoBlocks (Some f) octets = f ≢ form.Pem
+HasNoBlocks None octets = HasNoBlock octets
+
 -- the name of the first header of a body, and none
 abbrev pub IsHeaderIn : List ℕ → List ℕ → Type 0
 IsHeaderIn body name = (before behind : List ℕ) × IsSplit (codes ":") body before behind × IsTrimAscii before name
+
+-- ---- the octets that blocks carry
+
+-- a block carries the octets v: its body has no headers, and spells them in base 64
+abbrev pub HasOctets : Block → List ℕ → Type 0
+HasOctets b v = MatchResult b.body (λ body. Lacks (codes ":") body.now × SpellsBase64 body.now v) (λ e. ⊥)
+
+-- it carries none, or memory ran out
+abbrev pub HasNoOctets : Block → BlockError → Type 0
+HasNoOctets b (error.Unended why) = b.body ≡ Err why
+HasNoOctets b (error.Headers name) = MatchResult b.body (λ body. IsHeaderIn body.now name.now) (λ e. ⊥)
+HasNoOctets b error.NotBase64 = MatchResult b.body (λ body. Lacks (codes ":") body.now × SpellsNoBase64 body.now) (λ e. ⊥)
+HasNoOctets b error.NoMemory = ⊤
+
+-- a block is one of those that begin in a text
+pub data IsAmong (b : Block) : List ℕ → Type 0 where
+  next : {text : List ℕ} → IsNext text b → IsAmong b text
+  later : {text : List ℕ} (a : Block) → IsNext text a → IsAmong b a.rest.now → IsAmong b text
+
+-- the blocks of a text carry these octets, each its own, and no other block begins there
+abbrev pub AreBlocks : List ℕ → List (List ℕ) → Type 0
+AreBlocks text [] = HasNoBlock text
+AreBlocks text (v ∷ vs) = (b : Block) × IsNext text b × HasOctets b v × AreBlocks b.rest.now vs

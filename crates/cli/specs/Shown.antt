@@ -1,5 +1,5 @@
 -- Text that a terminal shows as it is.
-use Rattle.std.specs.Prelude.{◌≡◌, ℕ, Bool, false, List, [], ◌∷◌, nat_lt, nat_le, nat_eq, ◌&&◌, ◌||◌}
+use Rattle.std.specs.Prelude.{◌≡◌, ℕ, Bool, false, List, [], ◌∷◌, ◌++◌, codes, nat_lt, nat_le, nat_eq, ◌&&◌, ◌||◌}
 
 -- the three octets begin a control character in UTF-8: one of C0, DEL, one of C1; a mark that turns the direction of text
 -- (U+061C, U+200E, U+200F, U+202A to U+202E, U+2066 to U+2069); a separator of lines or paragraphs (U+2028, U+2029)
@@ -23,3 +23,7 @@ has_control (a ∷ w) = begins_control (a ∷ w) || has_control w
 -- a text without them
 abbrev pub IsShown : List ℕ → Type 0
 IsShown w = has_control w ≡ false
+
+-- a line: a text without them, and a newline
+abbrev pub IsLine : List ℕ → Type 0
+IsLine w = (text : List ℕ) × IsShown text × (w ≡ text ++ codes "\n")

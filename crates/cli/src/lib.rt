@@ -8,3 +8,4 @@ pub mod files;
 pub mod form;
 pub mod pem;
 pub mod shown;
+pub mod status;

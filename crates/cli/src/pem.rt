@@ -1,8 +1,7 @@
-//! Blocks of text (RFC 7468, 3), among any octets.
+//! Blocks of text (RFC 7468, 3), among any octets, and the octets that they carry.
 ghost use Rattle.std.specs.Prelude.{◌≡◌, ◌≢◌, ◌<◌, ◌≤◌, length, reverse, codes};
-ghost use Rattle.std.specs.Prelude.{IfSome, IfNone, IfOk, IfErr};
+ghost use Rattle.std.specs.Prelude.{IfSome, IfNone, IfOk, IfErr, true, false};
 ghost use Rattle.cli.specs.Pem.{
-  MayBegin,
   IsSplit,
   Lacks,
   line_of,
@@ -18,7 +17,16 @@ ghost use Rattle.cli.specs.Pem.{
   IsNext,
   HasNoBlock,
   IsHeaderIn,
+  HasBlocks,
+  HasNoBlocks,
+  HasOctets,
+  HasNoOctets,
 };
+
+use crate::form::{Form, Misspelled, from_base64};
+use crate::shown::ShownOctets;
+use std::alloc::Global;
+use std::fmt;
 
 /// What a block begins with.
 const BEGIN: &[u8] = b"-----BEGIN ";
@@ -53,6 +61,39 @@ pub struct Block<'a> {
 
     /// The octets behind its end, or behind its beginning if it has no end.
     pub rest: &'a [u8],
+}
+
+/// Why a block carries no octets.
+#[derive(Clone, Copy, Debug)]
+pub enum BlockError<'a> {
+    /// It has no end.
+    Unended(Unended<'a>),
+
+    /// It has headers (RFC 1421, 4.6), the first of which has this name.
+    Headers(&'a [u8]),
+
+    /// What stands in it isn't in base 64.
+    NotBase64,
+
+    /// Memory ran out.
+    NoMemory,
+}
+
+impl fmt::Display for BlockError<'_> {
+    fn fmt<W: fmt::Write>(&self, f: &mut fmt::Formatter<W>) -> fmt::Result {
+        match self {
+            BlockError::Unended(Unended::Missing) => write!(f, "it has no end"),
+            BlockError::Unended(Unended::Label(label)) => {
+                write!(f, "it ends with another label, {}", ShownOctets(label))
+            }
+            BlockError::Headers(name) => {
+                let name = ShownOctets(name);
+                write!(f, "it has headers ({name}), as an encrypted key has")
+            }
+            BlockError::NotBase64 => write!(f, "it isn't in base 64"),
+            BlockError::NoMemory => write!(f, "out of memory"),
+        }
+    }
 }
 
 /// Returns the octets before the first mark, and those behind it.
@@ -179,7 +220,6 @@ fn block_between<'a>(before: &[u8], behind: &'a [u8]) -> Option<Block<'a>>
 
 /// Returns the next block.
 pub fn next_block(octets: &[u8]) -> Option<Block<'_>>
-    ensures begins { IfSome result (λ b. MayBegin octets.now) }
     ensures less { IfSome result (λ b. length b.rest.now < length octets.now) }
     ensures next { IfSome result (λ b. IsNext octets.now b) }
     ensures none { IfNone result (HasNoBlock octets.now) }
@@ -193,4 +233,35 @@ pub fn next_block(octets: &[u8]) -> Option<Block<'_>>
         at = start + 1;
     }
     None
+}
+
+/// Returns whether octets are blocks of text, which is asked for by a form, or else found out: if
+/// one begins there.
+pub fn has_blocks(form: Option<Form>, octets: &[u8]) -> bool
+    ensures yes { result ≡ true → HasBlocks form octets.now }
+    ensures no { result ≡ false → HasNoBlocks form octets.now }
+{
+    match form {
+        Some(form) => form == Form::Pem,
+        None => next_block(octets).is_some(),
+    }
+}
+
+/// Returns the octets that a block carries.
+pub fn octets_in<'a>(alloc: Global, block: Block<'a>) -> Result<Vec<u8>, BlockError<'a>>
+    ensures octets { IfOk result (λ v. HasOctets block.entry v.items) }
+    ensures none { IfErr result (HasNoOctets block.entry) }
+{
+    let body = match block.body {
+        Ok(body) => body,
+        Err(why) => return Err(BlockError::Unended(why)),
+    };
+    if let Some(name) = header_in(body) {
+        return Err(BlockError::Headers(name));
+    }
+    match from_base64(alloc, body) {
+        Ok(octets) => Ok(octets),
+        Err(Misspelled::Form) => Err(BlockError::NotBase64),
+        Err(Misspelled::NoMemory) => Err(BlockError::NoMemory),
+    }
 }

@@ -1,7 +1,8 @@
 //! Text as a terminal can show it.
-ghost use Rattle.std.specs.Prelude.{◌≡◌, true, false};
-ghost use Rattle.cli.specs.Shown.{IsShown, are_control, begins_control, has_control};
+ghost use Rattle.std.specs.Prelude.{◌≡◌, IfOk, string_bytes, true, false};
+ghost use Rattle.cli.specs.Shown.{IsLine, IsShown, are_control, begins_control, has_control};
 
+use std::alloc::{AllocError, Global};
 use std::fmt;
 
 /// Returns whether a character doesn't show, or moves the text around it: a control character
@@ -100,4 +101,19 @@ impl fmt::Display for ShownOctets<'_> {
         }
         Ok(())
     }
+}
+
+/// Returns a text as a line. It has no control character, if its parts were shown by [`Shown`]; the
+/// check for them proves that it is one line.
+pub fn line_of<D: fmt::Display + Drop>(alloc: Global, text: D) -> Result<String, AllocError>
+    ensures { IfOk result (λ line. IsLine (string_bytes line)) }
+{
+    let mut shown = String::new(alloc);
+    write!(shown, "{text}")?;
+    let mut line = String::new(alloc);
+    if is_shown(shown.as_str()) {
+        line.push_str(shown.as_str())?;
+    }
+    line.push_str("\n")?;
+    Ok(line)
 }

@@ -3,15 +3,6 @@ use Rattle.cli.specs.Pem.{IsBlock, IsNoBlock}
 use Rattle.cli.proofs.Parts.{found_in, lacks_in, stands, start_fits, first_there, passed_too, none_left}
 use Rattle.cli.proofs.pem.next_block.Goals as goal
 
-pub returns-in-Some-block_between-clause-begins : goal.returns-in-Some-block_between-clause-begins
-returns-in-Some-block_between-clause-begins c = (
-  take (c.loop-passed.at + length c.in-Some.passed.now) c.args.octets.now,
-  c.in-Some.behind.now,
-  stands c.args.octets.now (codes "-----BEGIN ") c.in-Some.passed.now c.in-Some.behind.now c.loop-passed.at c.loop-passed.invariant.0
-      (found_in c.args.octets.now (codes "-----BEGIN ") c.in-Some.passed.now c.in-Some.behind.now c.split_at.result.1.now c.loop-passed.at
-      c.split_at.ensures.back c.in-Some.ensures.split),
-)
-
 pub returns-in-Some-block_between-clause-next : goal.returns-in-Some-block_between-clause-next
 returns-in-Some-block_between-clause-next c =
     let found = found_in c.args.octets.now (codes "-----BEGIN ") c.in-Some.passed.now c.in-Some.behind.now c.split_at.result.1.now c.loop-passed.at
