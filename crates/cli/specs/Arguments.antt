@@ -1,7 +1,10 @@
 -- What comes next on a command line.
-use Rattle.std.specs.Prelude.{◌≡◌, ◌⊎◌, ℕ, Bool, true, false, List, [], ◌∷◌, codes, nat_eq}
+use Rattle.std.specs.Prelude.{◌≡◌, ◌⊎◌, ℕ, ◌<◌, ◌^◌, Bool, true, false, List, [], ◌∷◌, codes, nat_eq}
+use Rattle.std.specs.Str.Parse.{IsNumeral, digits_value, without_leading_plus}
 use Rattle.cli.specs.declared.arguments.Argument.{Argument}
 use Rattle.cli.specs.declared.arguments.Argument.TheVariants as a
+use Rattle.cli.specs.declared.form.Form.{Form}
+use Rattle.cli.specs.Spelling.{name_of}
 
 -- a word is an option: it begins with `-`, and goes on
 abbrev pub is_option : List ℕ → Bool
@@ -18,3 +21,20 @@ Comes only words then rest (a.File w) = (then ≡ only) × (only ≡ false → i
 -- none comes
 abbrev pub IsEnd : Bool → List (List ℕ) → Type 0
 IsEnd only words = (words ≡ []) ⊎ (only ≡ false) × (words ≡ codes "--" ∷ [])
+
+-- the name of a form was next, and the rest follows it; and none is
+abbrev pub IsForm : List (List ℕ) → List (List ℕ) → Form → Type 0
+IsForm words rest f = words ≡ name_of f ∷ rest
+
+abbrev pub IsNoForm : List (List ℕ) → Type 0
+IsNoForm words = (f : Form) (rest : List (List ℕ)) → words ≡ name_of f ∷ rest → ⊥
+
+-- a word spells a number of a `usize` in decimal digits
+abbrev pub Counts : List ℕ → ℕ → Type 0
+Counts w n = IsNumeral 10 (without_leading_plus w) × (digits_value 10 (without_leading_plus w) ≡ n) × (n < 2 ^ 64)
+
+abbrev pub IsNumber : List (List ℕ) → List (List ℕ) → ℕ → Type 0
+IsNumber words rest n = (w : List ℕ) × (words ≡ w ∷ rest) × Counts w n
+
+abbrev pub IsNoNumber : List (List ℕ) → Type 0
+IsNoNumber words = (w : List ℕ) (rest : List (List ℕ)) (n : ℕ) → words ≡ w ∷ rest → Counts w n → ⊥

@@ -1,5 +1,5 @@
 -- Octets that texts spell.
-use Rattle.std.specs.Prelude.{◌≡◌, ◌⊎◌, ℕ, Bool, true, List, [], ◌∷◌, nat_eq, nat_le, ◌||◌, ◌&&◌, if◌then◌else◌, Ok, Err, codes}
+use Rattle.std.specs.Prelude.{◌≡◌, ◌⊎◌, ℕ, Bool, true, List, [], ◌∷◌, nat_eq, nat_le, ◌||◌, ◌&&◌, if◌then◌else◌, Ok, Err, codes, ⊤}
 use Rattle.base64.specs.Alphabets.{standard}
 use Rattle.base64.specs.Alphabet.{alphabet_symbols, alphabet_padding}
 use Rattle.base64.specs.GeneralPurpose.{IsConfig, engine_symbols, engine_padding, engine_config, decode_of as base64_of}
@@ -54,3 +54,32 @@ SpellsNoBase64 text = (e : GeneralPurpose) × IsEngine e × (x : DecodeError) ×
 abbrev pub IsMisspelled : Type 0 → Misspelled → Type 0
 IsMisspelled none why.Form = none
 IsMisspelled none why.NoMemory = Unit {0}
+
+-- ---- forms
+
+-- a text spells octets in a form, and none
+abbrev pub SpellsIn : Form → List ℕ → List ℕ → Type 0
+SpellsIn form.Octets text v = ⊥
+SpellsIn form.Hex text v = SpellsHex text v
+SpellsIn form.Base64 text v = SpellsBase64 text v
+SpellsIn form.Pem text v = ⊥
+
+abbrev pub SpellsNone : Form → List ℕ → Type 0
+SpellsNone form.Octets text = ⊥
+SpellsNone form.Hex text = SpellsNoHex text
+SpellsNone form.Base64 text = SpellsNoBase64 text
+SpellsNone form.Pem text = ⊥
+
+-- the form is that of the octets themselves, or of blocks
+abbrev pub IsItself : Form → Type 0
+IsItself form.Octets = ⊤
+IsItself form.Hex = ⊥
+IsItself form.Base64 = ⊥
+IsItself form.Pem = ⊤
+
+-- a text spells octets in hexadecimal, or else in base 64, and none in either
+abbrev pub SpellsEither : List ℕ → List ℕ → Type 0
+SpellsEither text v = SpellsHex text v ⊎ SpellsNoHex text × SpellsBase64 text v
+
+abbrev pub SpellsNeither : List ℕ → Type 0
+SpellsNeither text = SpellsNoHex text × SpellsNoBase64 text

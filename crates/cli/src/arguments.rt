@@ -1,6 +1,12 @@
 //! The arguments of a program: options, and files.
-ghost use Rattle.std.specs.Prelude.{◌≡◌, ◌∷◌, [], map, string_bytes, false, IfSome, IfNone};
-ghost use Rattle.cli.specs.Arguments.{is_option, Comes, IsEnd};
+ghost use Rattle.std.specs.Prelude.{◌≡◌, ◌∷◌, [], map, string_bytes, false};
+ghost use Rattle.std.specs.Prelude.{IfSome, IfNone, IfOk, OnErr};
+ghost use Rattle.cli.specs.Arguments.{is_option, Comes, IsEnd, IsForm, IsNoForm};
+ghost use Rattle.cli.specs.Arguments.{IsNumber, IsNoNumber};
+
+use crate::form::Form;
+use crate::shown::Shown;
+use std::fmt;
 
 /// An argument of a program.
 #[derive(Clone, Copy, Debug)]
@@ -10,6 +16,25 @@ pub enum Argument<'a> {
 
     /// Any other word, and each word after `--`.
     File(&'a str),
+}
+
+/// Why arguments ask for nothing.
+#[derive(Clone, Copy, Debug)]
+pub enum Misuse<'a> {
+    /// This word is wrong, for this reason.
+    Word(&'a str, &'a str),
+
+    /// Memory ran out.
+    NoMemory,
+}
+
+impl fmt::Display for Misuse<'_> {
+    fn fmt<W: fmt::Write>(&self, f: &mut fmt::Formatter<W>) -> fmt::Result {
+        match self {
+            Misuse::Word(word, reason) => write!(f, "{}: {reason}", Shown(word)),
+            Misuse::NoMemory => write!(f, "out of memory"),
+        }
+    }
 }
 
 /// Goes over the words of a command line.
@@ -78,6 +103,36 @@ impl<'a> Arguments<'a> {
         ensures same { self.new.only_files ≡ self.old.only_files }
     {
         self.next_word()
+    }
+
+    /// Returns the form that follows an option.
+    pub fn form(&mut self, option: &'a str) -> Result<Form, Misuse<'a>>
+        ensures form { IfOk result (IsForm
+            (map string_bytes self.old.words.now) (map string_bytes self.new.words.now)) }
+        ensures none { OnErr result (IsNoForm (map string_bytes self.old.words.now)) }
+        ensures same { self.new.only_files ≡ self.old.only_files }
+    {
+        if let Some(word) = self.next_word() {
+            if let Some(form) = Form::named(word) {
+                return Ok(form);
+            }
+        }
+        Err(Misuse::Word(option, "hex, base64, pem or der has to follow"))
+    }
+
+    /// Returns the number that follows an option.
+    pub fn number(&mut self, option: &'a str) -> Result<usize, Misuse<'a>>
+        ensures number { IfOk result (IsNumber
+            (map string_bytes self.old.words.now) (map string_bytes self.new.words.now)) }
+        ensures none { OnErr result (IsNoNumber (map string_bytes self.old.words.now)) }
+        ensures same { self.new.only_files ≡ self.old.only_files }
+    {
+        if let Some(word) = self.next_word() {
+            if let Ok(number) = word.parse::<usize>() {
+                return Ok(number);
+            }
+        }
+        Err(Misuse::Word(option, "a number has to follow"))
     }
 }
 

@@ -1,4 +1,6 @@
 //! Reads the files that are named on a command line.
+ghost use Rattle.std.specs.Prelude.{◌≡◌};
+
 use std::io::Read;
 use std::{fs, io};
 
@@ -27,7 +29,9 @@ impl Input<'_> {
 }
 
 /// Reads a file, or standard input to its end if the name is `-`.
-pub fn read<'a>(rt: &HostRuntime, name: &'a str) -> Input<'a> {
+pub fn read<'a>(rt: &HostRuntime, name: &'a str) -> Input<'a>
+    ensures { result.name.now ≡ name.now }
+{
     if name != STDIN {
         return Input {
             name,

@@ -1,5 +1,5 @@
 //! What programs share that read files from a command line: their arguments, the forms of their
-//! input, and how they show text.
+//! input, what they tell, and how they end.
 #![tactic(auto)]
 
 pub mod arguments;
@@ -7,5 +7,8 @@ pub mod armor;
 pub mod files;
 pub mod form;
 pub mod pem;
+pub mod program;
 pub mod shown;
+pub mod spelled;
 pub mod status;
+pub mod tell;

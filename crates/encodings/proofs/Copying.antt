@@ -106,7 +106,8 @@ module _ (mode : Mode) where
 
   -- a header is passed
   pub passed_header : (w : List ℕ) (fs : List Enclosing) (cs : List Copied) (v x h y : List ℕ) (f : Enclosing) (t : Tag) → State mode w fs cs v x
-      → f.place ≡ place t → f.sorts ≡ is_set t → IsHeader mode t true (length_of (open_length (behind_open f) (length y))) h → x ≡ h ++ (y ++ behind_of (behind_open f))
+      → f.place ≡ place t → f.sorts ≡ is_set t → IsHeader mode t true (length_of (open_length (behind_open f) (length y))) h
+      → x ≡ h ++ (y ++ behind_of (behind_open f))
       → f.start ≡ length v → f.inner ≡ length (v ++ h) → f.first ≡ length cs → State mode w (f ∷ fs) cs (v ++ h) y
   passed_header w fs cs v x h y f t st i j d is a b c = record {
     layer = record { read = no_trees; old = []; pairs = [] };

@@ -124,7 +124,8 @@ all_joined es left w s n ps h = go left n (s ps h)
 
 pub sizes_at : (cs : List Copied) (i : ℕ) (d : Copied) (rest : List ℕ) → i < length cs → sum_by (λ (c : Copied). c.size) (drop i cs) ≡ length rest
     → (get_or cs i d).size ≤ length rest
-sizes_at cs i d rest h s = (sizes_left (get_or cs i d) (drop (suc i) cs) rest (subst (λ z. sum_by (λ (c : Copied). c.size) z ≡ length rest) (drop-cons cs i d h) s)).0
+sizes_at cs i d rest h s = (sizes_left (get_or cs i d) (drop (suc i) cs) rest
+    (subst (λ z. sum_by (λ (c : Copied). c.size) z ≡ length rest) (drop-cons cs i d h) s)).0
 
 pub split_on : (cs : List Copied) (octets : List ℕ) (es fs : List Element) (i : ℕ) (d : Copied) (rest after : List ℕ) (e : Element) → i < length cs
     → sum_by (λ (c : Copied). c.size) (drop i cs) ≡ length rest → Splits cs octets es (drop i cs) rest → e.place ≡ (get_or cs i d).place

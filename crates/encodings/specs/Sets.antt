@@ -1,12 +1,13 @@
 -- The order of the values inside a SET in CER and DER (ITU-T X.690, 9.3, 10.3, 11.6; X.680, 8.6).
-use Rattle.std.specs.Prelude.{◌≡◌, ℕ, ◌+◌, ◌*◌, ◌<◌, ◌⊎◌, ◌==◌, Bool, true, false, ⊤, List, [], ◌∷◌, IsPermutation}
+use Rattle.std.specs.Prelude.{◌≡◌, ◌≢◌, ℕ, ◌+◌, ◌*◌, ◌<◌, ◌⊎◌, ◌==◌, Bool, true, false, ⊤, List, [], ◌∷◌, IsPermutation}
 use Rattle.bcder.specs.declared.mode.Mode.{Mode}
+use Rattle.bcder.specs.declared.mode.Mode.TheVariants.{Ber}
 use Rattle.bcder.specs.x690.Encoding.{IsEncoding, AreEncodings}
 use Rattle.bcder.specs.x690.Identifier.{Class, universal, application, context_specific, private, Tag}
 use Rattle.bcder.specs.x690.Tree.{Tree, primitive, constructed, Trees, no_trees, ◌∷ₜ◌}
 use Rattle.bcder.specs.calls.Valued.{tag_of}
 use Rattle.encodings.specs.Headings.{class_number}
-use Rattle.encodings.specs.Status.{done, no_memory, absent}
+use Rattle.encodings.specs.Status.{done, no_memory, absent, no_order}
 use Rattle.encodings.specs.Values.{AreNoValues}
 
 -- the place of a tag in the order of tags (X.680, 8.6): by class, and then by number, which is below 2 ^ 21
@@ -76,8 +77,9 @@ pub record IsSorting (mode : Mode) (octets w : List ℕ) : Type 0 where
   pub same : AreSorted mode read sorted
   pub is : AreEncodings mode sorted w
 
--- the values were put in order; or the octets are no values; or memory ran out
+-- the values were put in order; or the rules have no order for them; or the octets are no values; or memory ran out
 pub data SortsSets (mode : Mode) (old : List ℕ) (status : ℕ) (new : List ℕ) : Type 0 where
-  in_order : status ≡ done → IsSorting mode old new → SortsSets mode old status new
-  no_values : status ≡ absent → AreNoValues mode old → new ≡ old → SortsSets mode old status new
-  lacking : status ≡ no_memory → new ≡ old → SortsSets mode old status new
+  in_order : mode ≢ Ber → status ≡ done → IsSorting mode old new → SortsSets mode old status new
+  unordered : mode ≡ Ber → status ≡ no_order → new ≡ old → SortsSets mode old status new
+  no_values : mode ≢ Ber → status ≡ absent → AreNoValues mode old → new ≡ old → SortsSets mode old status new
+  lacking : mode ≢ Ber → status ≡ no_memory → new ≡ old → SortsSets mode old status new

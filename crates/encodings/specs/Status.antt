@@ -40,3 +40,7 @@ too_small = 9
 -- a value is not converted to these rules
 abbrev pub not_converted : ℕ
 not_converted = 10
+
+-- the values inside a SET have no order in these rules
+abbrev pub no_order : ℕ
+no_order = 11

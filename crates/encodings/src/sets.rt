@@ -12,7 +12,7 @@ ghost use Rattle.encodings.specs.Sorting.{PutsInOrder, behind_of, octets_of};
 
 use crate::convert::begin;
 use crate::heading::class_of;
-use crate::status::{ABSENT, DONE, NO_MEMORY};
+use crate::status::{ABSENT, DONE, NO_MEMORY, NO_ORDER};
 use crate::values::are_values;
 use bcder::plain::end_at;
 use bcder::{Mode, NoMemory, Tag};
@@ -300,8 +300,8 @@ fn sorted(alloc: Global, mode: Mode, octets: &[u8]) -> Result<Vec<u8>, NoMemory>
 /// Puts the values inside each SET of encodings in CER or DER in order, those that are inside
 /// others first: by their tags (X.690, 9.3, 10.3), and those with one tag by their octets (11.6).
 ///
-/// The status is `DONE`, `ABSENT` if the octets aren't values, or `NO_MEMORY`. Nothing is written
-/// unless it is `DONE`.
+/// The status is `DONE`, `NO_ORDER` in BER, `ABSENT` if the octets aren't values, or `NO_MEMORY`.
+/// Nothing is written unless it is `DONE`.
 ///
 /// Octets don't tell types apart: values with several tags in a SET OF are ordered as in a SET, and
 /// in CER an untagged CHOICE in a SET has the place of its own tag.
@@ -313,9 +313,11 @@ fn sorted(alloc: Global, mode: Mode, octets: &[u8]) -> Result<Vec<u8>, NoMemory>
 /// sort_sets(alloc, Mode::Der, &mut octets)   // 31 06 020102 020101 becomes 31 06 020101 020102
 /// ```
 pub fn sort_sets(alloc: Global, mode: Mode, octets: &mut [u8]) -> u8
-    requires { mode ≢ Ber }
     ensures { SortsSets mode octets.old result octets.new }
 {
+    if mode == Mode::Ber {
+        return NO_ORDER;
+    }
     match are_values(alloc, mode, octets) {
         DONE => {}
         NO_MEMORY => return NO_MEMORY,

@@ -29,3 +29,6 @@ pub const TOO_SMALL: u8 = 9;
 
 /// A value is not converted to these rules.
 pub const NOT_CONVERTED: u8 = 10;
+
+/// The values inside a SET have no order in these rules.
+pub const NO_ORDER: u8 = 11;

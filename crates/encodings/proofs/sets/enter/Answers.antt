@@ -22,7 +22,8 @@ returns-then-begun c =
     let same : c.push.new.self.items ≡ c.args.opened.now.items ++ f ∷ [] = search rules in
     let w : c.extend_from_slice.new.self.items ≡ c.args.out.now.items ++ c.split_at.result.0.now = search rules in
     let h : c.split_at.result.0.now ≡ b.0 =
-    c.split_at.ensures.front ∙ header_taken c.args.rest.now b.0 y (behind_of o) _ b.2 (ap (λ k. length c.args.rest.now - (length y + k)) c.behind_len.ensures) in
+    c.split_at.ensures.front
+    ∙ header_taken c.args.rest.now b.0 y (behind_of o) _ b.2 (ap (λ k. length c.args.rest.now - (length y + k)) c.behind_len.ensures) in
     let s : c.len-start.result ≡ length c.args.out.now.items = search rules in
     let i : c.len.result ≡ length c.extend_from_slice.new.self.items = search rules in
     let n : c.len-then-begun.result ≡ length c.args.copied.now.items = search rules in

@@ -4,7 +4,9 @@ use Rattle.encodings.proofs.CopySteps.{enters_on, ends_on, encloses, last_first}
 use Rattle.encodings.proofs.sets.step.Goals as goal
 
 pub returns-in_default : goal.returns-in_default
-returns-in_default c = IfOk-weaker c.enter.result _ _ (λ y e. enters_on c.args.mode c.args.rest.now c.args.opened.now.items _ c.args.copied.now.items _ c.args.out.now.items _ _ e) c.enter.ensures
+returns-in_default c = IfOk-weaker c.enter.result _ _
+    (λ y e. enters_on c.args.mode c.args.rest.now c.args.opened.now.items _ c.args.copied.now.items _ c.args.out.now.items _ _ e)
+    c.enter.ensures
 
 pub leave-requires : goal.leave-requires
 leave-requires c =
@@ -23,4 +25,6 @@ returns-in_ok-leave-in-Some-end_of c =
     (last_first os c.pop-ended.new.self.items c.in-Some.field-0.now g p) c.in-Some-end_of.ensures c.in_ok-leave-in-Some-end_of.ensures
 
 pub returns-in-None : goal.returns-in-None
-returns-in-None c = IfOk-weaker c.enter-in-None.result _ _ (λ y e. enters_on c.args.mode c.args.rest.now c.args.opened.now.items _ c.args.copied.now.items _ c.args.out.now.items _ _ e) c.enter-in-None.ensures
+returns-in-None c = IfOk-weaker c.enter-in-None.result _ _
+    (λ y e. enters_on c.args.mode c.args.rest.now c.args.opened.now.items _ c.args.copied.now.items _ c.args.out.now.items _ _ e)
+    c.enter-in-None.ensures
