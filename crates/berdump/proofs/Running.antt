@@ -8,8 +8,8 @@ use Rattle.bcder.specs.calls.Target.{AppendsFront, AppendsShorter}
 use Rattle.berdump.specs.declared.list.ListError.{ListError}
 use Rattle.berdump.specs.declared.list.ListError.TheVariants.{Refused, NoMemory, Target}
 use Rattle.berdump.specs.declared.scope.Scope.{Scope}
-use Rattle.berdump.specs.declared.status.Status.{Status}
-use Rattle.berdump.specs.declared.status.Status.TheVariants as status
+use Rattle.cli.specs.declared.status.Status.{Status}
+use Rattle.cli.specs.declared.status.Status.TheVariants as status
 use Rattle.berdump.specs.Answers.{Listed, ListedInPart, CutOff, IsUnlisted, HasContents}
 use Rattle.berdump.specs.Runs.{Ends, IsWhole, IsTitle, AnyTitle, Titled, TitleCutOff, IsText, IsTextInPart, AreWhole, AreParts, joined, AllWritten, SomeWritten, CutWritten}
 use Rattle.berdump.specs.Runs.{IsBound, IsUntitled, status_of, BlockTitled, BlocksListed, IsFile, FilesListed, ValueWritten, IsValueOf, FirstWritten}
@@ -17,6 +17,7 @@ use Rattle.berdump.specs.declared.request.Request.{Request}
 use Rattle.cli.specs.declared.files.Input.{Input}
 use Rattle.cli.specs.declared.pem.Block.{Block}
 use Rattle.cli.specs.Pem.{IsNext, HasNoBlock}
+use Rattle.cli.specs.Shown.{IsLine}
 use Rattle.std.proofs.Math.Seq.{drop-cons}
 use Rattle.berdump.proofs.Walking.{written_kept, keeps_nil}
 
@@ -42,7 +43,7 @@ cut_kept scope mode octets a b c h k = record {
 }
 
 module _ (scope : Scope) (mode : Mode) (octets w : List ℕ) (a b c : Option (List ℕ)) (is : w ≡ drop scope.from octets) (k : Keeps b c) where
-  pub ends_listed : (s : Status) → s ≡ status.Written → scope.from ≤ length octets → Listed scope mode w a b → Ends scope mode octets a c s
+  pub ends_listed : (s : Status) → s ≡ status.Done → scope.from ≤ length octets → Listed scope mode w a b → Ends scope mode octets a c s
   ends_listed s e l h = Ends.listed e l (listed_kept scope mode (drop scope.from octets) a b c (subst (λ z. Listed scope mode z a b) is h) k)
 
   pub ends_unflushed : (s : Status) → s ≡ status.Failed → Listed scope mode w a b → Ends scope mode octets a c s
@@ -208,7 +209,7 @@ keeps_self None = tt
 keeps_self (Some x) = refl
 
 pub bound_next : (scope : Scope) (mode : Mode) (a b c : Option (List ℕ)) (s t u : Status) → IsBound scope mode a b s → s ≢ status.Failed
-    → IsBound scope mode b c t → t ≢ status.Failed → (u ≡ status.Written → (s ≡ status.Written) × (t ≡ status.Written)) → IsBound scope mode a c u
+    → IsBound scope mode b c t → t ≢ status.Failed → (u ≡ status.Done → (s ≡ status.Done) × (t ≡ status.Done)) → IsBound scope mode a c u
 bound_next scope mode a b c s t u h n k m both = record {
   written = λ e. let p = both e in all_join scope mode a b c (h.written p.0) (k.written p.1);
   some = λ z. some_join scope mode a b c (h.some n) (k.some m);
@@ -226,7 +227,7 @@ not_failed s t u (inr e) n m k = m (sym e ∙ k)
 -- ---- files
 
 -- where all is written, all lines were
-pub whole_ends : (scope : Scope) (mode : Mode) (octets : List ℕ) (a b : Option (List ℕ)) (s : Status) → s ≡ status.Written
+pub whole_ends : (scope : Scope) (mode : Mode) (octets : List ℕ) (a b : Option (List ℕ)) (s : Status) → s ≡ status.Done
     → Ends scope mode octets a b s → IsWhole scope mode octets a b
 whole_ends scope mode octets a b s z (Ends.listed e l h) = record { within = l; listed = h }
 whole_ends scope mode octets a b s z (Ends.outside e l k) = let n = sym z ∙ e in cc
@@ -235,7 +236,7 @@ whole_ends scope mode octets a b s z (Ends.no_memory e h) = let n = sym z ∙ e 
 whole_ends scope mode octets a b s z (Ends.out_failed e h) = let n = sym z ∙ e in cc
 whole_ends scope mode octets a b s z (Ends.unflushed e h) = let n = sym z ∙ e in cc
 
-pub never_written : (e : ListError) → status_of e ≡ status.Written → ⊥
+pub never_written : (e : ListError) → status_of e ≡ status.Done → ⊥
 never_written (Refused at why) h = cc
 never_written NoMemory h = cc
 never_written (Target e) h = cc
@@ -260,8 +261,8 @@ title_unflushed first w v a b c i e k f = record {
 }
 
 -- a line behind an empty one
-pub title_later : (line old new : List ℕ) → IsTitle true line → old ≡ [] → new ≡ old ++ (codes "\n" ++ line) → IsTitle false new
-title_later line old new i n e = (i.0, i.1, e ∙ ap (λ z. z ++ (codes "\n" ++ line)) n ∙ ap (λ z. codes "\n" ++ z) i.2)
+pub title_later : (line old new : List ℕ) → IsLine line → old ≡ [] → new ≡ old ++ (codes "\n" ++ line) → IsTitle false new
+title_later line old new i n e = (line, i, e ∙ ap (λ z. z ++ (codes "\n" ++ line)) n)
 
 -- ---- blocks
 
@@ -303,10 +304,10 @@ bound_unflushed scope mode a b c s t h k e = bound_cut scope mode a c t e (bound
 -- ---- steps that write a block or a file more
 
 pub next_block : (request : Request) (first : Bool) (all rest : List ℕ) (block : Block) (a b c : Option (List ℕ)) (s t u : Status)
-    → (u ≡ status.Written → (s ≡ status.Written) × (t ≡ status.Written))
-    → (s ≡ status.Written → (end : Option (List ℕ)) → BlocksListed request first rest b end → BlocksListed request true all a end)
-    → IsNext rest block → (t ≡ status.Written → BlockTitled request first block b c)
-    → u ≡ status.Written → (end : Option (List ℕ)) → BlocksListed request false block.rest.now c end → BlocksListed request true all a end
+    → (u ≡ status.Done → (s ≡ status.Done) × (t ≡ status.Done))
+    → (s ≡ status.Done → (end : Option (List ℕ)) → BlocksListed request first rest b end → BlocksListed request true all a end)
+    → IsNext rest block → (t ≡ status.Done → BlockTitled request first block b c)
+    → u ≡ status.Done → (end : Option (List ℕ)) → BlocksListed request false block.rest.now c end → BlocksListed request true all a end
 next_block request first all rest block a b c s t u both so_far n titled z end m =
     let p = both z in
     so_far p.0 end (BlocksListed.more block c n (titled p.1) m)
@@ -315,10 +316,10 @@ file_at : (xs : List Input) (i : ℕ) (x : Input) → i < length xs → x ≡ ge
 file_at xs i x k e = drop-cons xs i x k ∙ ap (λ z. z ∷ drop (suc i) xs) (sym e) ∙ ap (λ j. x ∷ drop j xs) (sym (add-one i))
 
 pub next_file : (request : Request) (only first f : Bool) (inputs : List Input) (i : ℕ) (x : Input) (a b c : Option (List ℕ)) (s t u : Status)
-    → (u ≡ status.Written → (s ≡ status.Written) × (t ≡ status.Written))
-    → (s ≡ status.Written → (end : Option (List ℕ)) → FilesListed request only first (drop i inputs) b end → FilesListed request only true inputs a end)
-    → i < length inputs → x ≡ get_or inputs i x → (t ≡ status.Written → IsFile request only first x b c) → (t ≡ status.Written → f ≡ false)
-    → u ≡ status.Written → (end : Option (List ℕ)) → FilesListed request only f (drop (i + 1) inputs) c end → FilesListed request only true inputs a end
+    → (u ≡ status.Done → (s ≡ status.Done) × (t ≡ status.Done))
+    → (s ≡ status.Done → (end : Option (List ℕ)) → FilesListed request only first (drop i inputs) b end → FilesListed request only true inputs a end)
+    → i < length inputs → x ≡ get_or inputs i x → (t ≡ status.Done → IsFile request only first x b c) → (t ≡ status.Done → f ≡ false)
+    → u ≡ status.Done → (end : Option (List ℕ)) → FilesListed request only f (drop (i + 1) inputs) c end → FilesListed request only true inputs a end
 next_file request only first f inputs i x a b c s t u both so_far k e file stays z end m =
     let p = both z in
     let rest : FilesListed request only false (drop (i + 1) inputs) c end =
@@ -332,10 +333,10 @@ pub value_written : (request : Request) (at : ℕ) (octets contents : List ℕ) 
     → HasContents (record request.scope { from = 0 }) request.mode octets at contents → Appends a b contents → Keeps b c → ValueWritten request at octets a c
 value_written request at octets contents a b c h k f = record { contents = contents; has = h; appends = Appends-kept a b c contents k f }
 
-pub not_written : (s : Status) → s ≡ status.Refused → s ≡ status.Written → ⊥
+pub not_written : (s : Status) → s ≡ status.Refused → s ≡ status.Done → ⊥
 not_written s e h = let z = sym e ∙ h in cc
 
-pub failed_not_written : (s : Status) → s ≡ status.Failed → s ≡ status.Written → ⊥
+pub failed_not_written : (s : Status) → s ≡ status.Failed → s ≡ status.Done → ⊥
 failed_not_written s e h = let z = sym e ∙ h in cc
 
 pub first_written : (request : Request) (at : ℕ) (inputs : List Input) (x : Input) (a b : Option (List ℕ)) → 1 ≤ length inputs → x ≡ get_or inputs 0 x

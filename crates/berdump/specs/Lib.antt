@@ -5,5 +5,4 @@ pub mod Reasons
 pub mod Answers
 pub mod Opened
 pub mod Walk
-pub mod Spellings
 pub mod Runs

@@ -4,23 +4,20 @@ use Rattle.std.specs.Io.KnownBytes.{Appends, Keeps}
 use Rattle.bcder.specs.declared.mode.Mode.{Mode}
 use Rattle.bcder.specs.calls.Target.{AppendsFront}
 use Rattle.cli.specs.declared.files.Input.{Input}
-use Rattle.cli.specs.declared.form.Form.{Form}
-use Rattle.cli.specs.declared.form.Form.TheVariants as form
-use Rattle.cli.specs.Pem.{Lacks, IsNext, HasNoBlock}
-use Rattle.cli.specs.Spelling.{SpellsBase64}
+use Rattle.cli.specs.Pem.{HasBlocks, HasNoBlocks, HasNoBlock, HasOctets, IsNext}
+use Rattle.cli.specs.Spelled.{IsReadAs}
 use Rattle.cli.specs.declared.pem.Block.{Block}
-use Rattle.cli.specs.Shown.{IsShown}
+use Rattle.cli.specs.Shown.{IsLine}
 use Rattle.berdump.specs.declared.heading.Heading.{Heading}
 use Rattle.berdump.specs.declared.list.ListError.{ListError}
 use Rattle.berdump.specs.declared.list.ListError.TheVariants.{Refused, NoMemory, Target}
 use Rattle.berdump.specs.declared.request.Request.{Request}
 use Rattle.berdump.specs.declared.scope.Scope.{Scope}
-use Rattle.berdump.specs.declared.status.Status.{Status}
-use Rattle.berdump.specs.declared.status.Status.TheVariants as status
+use Rattle.cli.specs.declared.status.Status.{Status}
+use Rattle.cli.specs.declared.status.Status.TheVariants as status
 use Rattle.berdump.specs.Lines.{AreLines}
 use Rattle.berdump.specs.Listing.{AreListed, IsNoList}
 use Rattle.berdump.specs.Answers.{AllStand, Listed, ListedInPart, CutOff, HasContents}
-use Rattle.berdump.specs.Spellings.{Spells, SpellsNothing}
 
 -- the status of an error
 abbrev pub status_of : ListError → Status
@@ -30,7 +27,7 @@ status_of (Target e) = status.Failed
 
 -- how a run over octets ends: where all is written, all lines of their values from the scope's offset on
 pub data Ends (scope : Scope) (mode : Mode) (octets : List ℕ) (old new : Option (List ℕ)) (s : Status) : Type 0 where
-  listed : s ≡ status.Written → scope.from ≤ length octets → Listed scope mode (drop scope.from octets) old new → Ends scope mode octets old new s
+  listed : s ≡ status.Done → scope.from ≤ length octets → Listed scope mode (drop scope.from octets) old new → Ends scope mode octets old new s
   outside : s ≡ status.Refused → length octets < scope.from → Keeps old new → Ends scope mode octets old new s
   refused : s ≡ status.Refused → IsNoList mode (drop scope.from octets) → ListedInPart scope mode (drop scope.from octets) old new
       → Ends scope mode octets old new s
@@ -50,9 +47,9 @@ abbrev pub between : Bool → List ℕ
 between true = []
 between false = codes "\n"
 
--- a line without control characters, which names what follows, and what stands in front of it
+-- a line that names what follows, and what stands in front of it
 abbrev pub IsTitle : Bool → List ℕ → Type 0
-IsTitle first w = (name : List ℕ) × IsShown name × (w ≡ between first ++ (name ++ codes "\n"))
+IsTitle first w = (line : List ℕ) × IsLine line × (w ≡ between first ++ line)
 
 -- it was written, and a prefix of it
 pub record Titled (first : Bool) (old new : Option (List ℕ)) : Type 0 where
@@ -123,15 +120,11 @@ pub record CutWritten (scope : Scope) (mode : Mode) (old new : Option (List ℕ)
 
 -- what a status says of what was written
 pub record IsBound (scope : Scope) (mode : Mode) (old new : Option (List ℕ)) (s : Status) : Type 0 where
-  pub written : s ≡ status.Written → AllWritten scope mode old new
+  pub written : s ≡ status.Done → AllWritten scope mode old new
   pub some : s ≢ status.Failed → SomeWritten scope mode old new
   pub cut : CutWritten scope mode old new
 
 -- ---- blocks of text
-
--- the octets of a block: its body has no headers, and spells them in base 64
-abbrev pub HasOctets : Block → List ℕ → Type 0
-HasOctets block v = MatchResult block.body (λ body. Lacks (codes ":") body.now × SpellsBase64 body.now v) (λ e. ⊥)
 
 -- a block was listed whole, and behind its title
 abbrev pub BlockListed : Request → Block → Option (List ℕ) → Option (List ℕ) → Type 0
@@ -150,24 +143,11 @@ pub data BlocksListed (request : Request) : Bool → List ℕ → Option (List �
 
 -- ---- files
 
--- octets of this form are blocks of text: where it isn't told, those in which a block begins
-abbrev pub HasBlocks : Option Form → List ℕ → Type 0
-HasBlocks (Some f) octets = f ≡ form.Pem
-HasBlocks None octets = (block : Block) × IsNext octets block
-
-abbrev pub HasNoBlocks : Option Form → List ℕ → Type 0
-HasNoBlocks (Some f) octets = f ≢ form.Pem
-HasNoBlocks None octets = HasNoBlock octets
-
--- octets of this form say that these are to be listed: they spell them, or are these
-abbrev pub IsRead : Request → List ℕ → List ℕ → Type 0
-IsRead request octets v = Spells request.mode request.form octets v ⊎ SpellsNothing request.mode request.form octets × (v ≡ octets)
-
 -- all lines of octets were written, by what they are in this form
 pub data IsInput (request : Request) (octets : List ℕ) (old new : Option (List ℕ)) : Type 0 where
   blocks : HasBlocks request.form octets → (block : Block) → IsNext octets block → BlocksListed request true octets old new
       → IsInput request octets old new
-  one : HasNoBlocks request.form octets → (v : List ℕ) → IsRead request octets v → IsWhole request.scope request.mode v old new
+  one : HasNoBlocks request.form octets → (v : List ℕ) → IsReadAs request.mode request.form octets v → IsWhole request.scope request.mode v old new
       → IsInput request octets old new
 
 -- a file was read, and listed behind a title, or without one if it is the only file
@@ -190,7 +170,7 @@ FilesListed request only first (i ∷ is) old new =
 -- octets are those of the first block of a file's, or what these are read as
 pub data IsFirst (request : Request) (octets v : List ℕ) : Type 0 where
   block : HasBlocks request.form octets → (block : Block) → IsNext octets block → HasOctets block v → IsFirst request octets v
-  one : HasNoBlocks request.form octets → IsRead request octets v → IsFirst request octets v
+  one : HasNoBlocks request.form octets → IsReadAs request.mode request.form octets v → IsFirst request octets v
 
 -- the contents octets of the value at an offset of octets were written
 pub record ValueWritten (request : Request) (at : ℕ) (octets : List ℕ) (old new : Option (List ℕ)) : Type 0 where

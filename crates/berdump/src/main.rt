@@ -14,16 +14,16 @@ mod opened;
 pub mod request;
 mod run;
 pub mod scope;
-mod spelled;
-mod status;
 mod tell;
 mod title;
 mod value;
 
-use crate::request::{Asked, Misuse, Request};
+use crate::request::{Asked, Request};
+use crate::tell::PROGRAM;
+use cli::program;
+use std::io;
 use std::io::BufWriter;
 use std::process::ExitCode;
-use std::{env, io};
 
 /// How to use the program, in a line.
 const USAGE: &str = "usage: berdump [OPTION ..] [FILE ..]";
@@ -52,19 +52,9 @@ The status is 0 if all was listed, 1 if octets were refused, and 2 if a file
 can't be read, or if the usage is wrong.
 ";
 
-/// Returns the arguments without the name of the program.
-fn arguments(rt: &HostRuntime) -> io::Result<Vec<String>> {
-    let mut args = env::args(rt)?;
-    let _program = args.next();
-    Ok(args.collect(rt.alloc())?)
-}
-
 /// Lists files, and returns the exit status.
 fn dump(rt: &HostRuntime, request: Request, names: &[&str]) -> io::Result<u8> {
-    let mut inputs = Vec::new(rt.alloc());
-    for name in names {
-        inputs.push(cli::files::read(rt, name))?;
-    }
+    let inputs = program::inputs(rt, names)?;
     let mut out = BufWriter::new(rt.alloc(), io::writer(rt))?;
     let mut err = rt.stderr();
     let status = match request.value {
@@ -76,30 +66,16 @@ fn dump(rt: &HostRuntime, request: Request, names: &[&str]) -> io::Result<u8> {
 
 /// Does what the arguments ask for, and returns the exit status.
 fn answer(rt: &HostRuntime) -> io::Result<u8> {
-    let args = arguments(rt)?;
-    match request::read(rt.alloc(), &args) {
+    let words = program::words(rt)?;
+    match request::read(rt.alloc(), &words) {
         Ok(Asked::Help) => print!(rt; "{USAGE}\n{HELP}")?,
         Ok(Asked::Version) => println!(rt; "berdump 0.7.7")?,
         Ok(Asked::Files(request, names)) => return dump(rt, request, &names),
-        Err(Misuse::NoMemory) => {
-            eprintln!(rt; "berdump: out of memory")?;
-            return Ok(1);
-        }
-        Err(misuse) => {
-            eprintln!(rt; "berdump: {misuse}")?;
-            eprintln!(rt; "{USAGE}")?;
-            return Ok(2);
-        }
+        Err(misuse) => return program::refuse(rt, PROGRAM, USAGE, misuse),
     }
     Ok(0)
 }
 
 fn main(rt: HostRuntime) -> ExitCode {
-    match answer(&rt) {
-        Ok(status) => ExitCode::from(status),
-        Err(error) => {
-            let _ = eprintln!(rt; "berdump: {error}");
-            ExitCode::from(2)
-        }
-    }
+    program::exit(&rt, PROGRAM, answer(&rt))
 }

@@ -1,12 +1,10 @@
 //! Reads the arguments.
 use crate::scope::Scope;
 use bcder::Mode;
-use cli::arguments::{Argument, Arguments};
+use cli::arguments::{Argument, Arguments, Misuse};
 use cli::files::STDIN;
 use cli::form::Form;
-use cli::shown::Shown;
 use std::alloc::Global;
-use std::fmt;
 
 /// How files are to be listed.
 #[derive(Clone, Copy, Debug)]
@@ -37,59 +35,6 @@ pub(crate) enum Asked<'a> {
     Files(Request, Vec<&'a str>),
 }
 
-/// Why arguments ask for nothing.
-#[derive(Clone, Copy)]
-pub(crate) enum Misuse<'a> {
-    /// There is no such option.
-    Option(&'a str),
-
-    /// The option needs a number behind it.
-    Number(&'a str),
-
-    /// The option for a form needs one behind it.
-    Form,
-
-    /// The contents octets of a value are wanted of several files.
-    Files,
-
-    /// Memory ran out.
-    NoMemory,
-}
-
-impl fmt::Display for Misuse<'_> {
-    fn fmt<W: fmt::Write>(&self, f: &mut fmt::Formatter<W>) -> fmt::Result {
-        match self {
-            Misuse::Option(word) => write!(f, "{}: no such option", Shown(word)),
-            Misuse::Number(word) => write!(f, "{word}: a number has to follow"),
-            Misuse::Form => write!(f, "--input: hex, base64, pem or der has to follow"),
-            Misuse::Files => write!(f, "--value: only one file can be read"),
-            Misuse::NoMemory => write!(f, "out of memory"),
-        }
-    }
-}
-
-/// Returns the number behind an option.
-fn number<'a>(option: &'a str, args: &mut Arguments<'a>) -> Result<usize, Misuse<'a>> {
-    let Some(word) = args.value() else {
-        return Err(Misuse::Number(option));
-    };
-    match word.parse::<usize>() {
-        Ok(number) => Ok(number),
-        Err(_) => Err(Misuse::Number(option)),
-    }
-}
-
-/// Returns the form behind an option.
-fn form<'a>(args: &mut Arguments<'a>) -> Result<Form, Misuse<'a>> {
-    let Some(word) = args.value() else {
-        return Err(Misuse::Form);
-    };
-    match Form::named(word) {
-        Some(form) => Ok(form),
-        None => Err(Misuse::Form),
-    }
-}
-
 /// Returns what the arguments ask for, or why they ask for nothing.
 pub(crate) fn read<'a>(alloc: Global, words: &'a [String]) -> Result<Asked<'a>, Misuse<'a>> {
     let mut args = Arguments::new(words);
@@ -105,11 +50,7 @@ pub(crate) fn read<'a>(alloc: Global, words: &'a [String]) -> Result<Asked<'a>, 
         form: None,
         value: None,
     };
-    // Each turn takes a word.
-    for _ in 0..u64::MAX {
-        let Some(argument) = args.next() else {
-            break;
-        };
+    while let Some(argument) = args.next() {
         let option = match argument {
             Argument::File(file) => {
                 if files.push(file).is_err() {
@@ -125,20 +66,20 @@ pub(crate) fn read<'a>(alloc: Global, words: &'a [String]) -> Result<Asked<'a>, 
             "--der" => request.mode = Mode::Der,
             "--inside" => request.scope.inside = true,
             "--hex" => request.scope.whole = true,
-            "--offset" => request.scope.from = number(option, &mut args)?,
-            "--depth" => request.scope.levels = Some(number(option, &mut args)?),
-            "--value" => request.value = Some(number(option, &mut args)?),
-            "--input" => request.form = Some(form(&mut args)?),
+            "--offset" => request.scope.from = args.number(option)?,
+            "--depth" => request.scope.levels = Some(args.number(option)?),
+            "--value" => request.value = Some(args.number(option)?),
+            "--input" => request.form = Some(args.form(option)?),
             "-h" | "--help" => return Ok(Asked::Help),
             "--version" => return Ok(Asked::Version),
-            _ => return Err(Misuse::Option(option)),
+            _ => return Err(Misuse::Word(option, "no such option")),
         }
     }
     if files.is_empty() && files.push(STDIN).is_err() {
         return Err(Misuse::NoMemory);
     }
     if request.value.is_some() && files.len() > 1 {
-        return Err(Misuse::Files);
+        return Err(Misuse::Word("--value", "only one file can be read"));
     }
     Ok(Asked::Files(request, files))
 }

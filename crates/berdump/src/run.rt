@@ -1,25 +1,23 @@
 //! Lists files: their octets, or the blocks of a text (RFC 7468).
-ghost use Rattle.std.specs.Prelude.{◌≡◌, ◌≢◌, ◌==◌, true, false, [], length, IfOk, OnOk, IfErr};
+ghost use Rattle.std.specs.Prelude.{◌≡◌, ◌==◌, true, false, [], length};
 ghost use Rattle.std.specs.Io.KnownBytes.{Keeps};
 ghost use Rattle.std.specs.Io.Buffered.{writer_contents, writer_buffer};
 ghost use Rattle.cli.specs.declared.pem.Block.{Block as TheBlock};
 ghost use Rattle.cli.specs.Pem.{IsNext};
-ghost use Rattle.berdump.specs.declared.status.Status.TheVariants.{Written};
+ghost use Rattle.cli.specs.declared.status.Status.TheVariants.{Done};
 ghost use Rattle.berdump.specs.Runs.{Ends, IsBound, IsInput, IsFile, FilesListed};
-ghost use Rattle.berdump.specs.Runs.{HasOctets, BlockListed, BlockTitled, BlocksListed};
-ghost use Rattle.berdump.specs.Runs.{HasBlocks, HasNoBlocks};
+ghost use Rattle.berdump.specs.Runs.{BlockListed, BlockTitled, BlocksListed};
 
 use crate::list::{ListError, list};
 use crate::request::Request;
-use crate::spelled::{Spelled, spelled_in};
-use crate::status::Status;
-use crate::tell::{
-    Place, tell, tell_error, tell_header, tell_no_memory, tell_unended, tell_unwritten,
-};
+use crate::tell::{PROGRAM, tell_error};
 use crate::title::write_title;
 use cli::files::Input;
-use cli::form::{Form, Misspelled, from_base64};
-use cli::pem::{Block, header_in, next_block};
+use cli::form::Misspelled;
+use cli::pem::{Block, BlockError, has_blocks, next_block, octets_in};
+use cli::spelled::spelled_in;
+use cli::status::Status;
+use cli::tell::{Place, tell, tell_no_memory, tell_unwritten};
 use std::alloc::Global;
 use std::io;
 use std::io::{BufWriter, Write};
@@ -35,54 +33,23 @@ fn run_octets<W: io::Write, E: io::Write>(
 ) -> Status
     ensures ends { Ends request.scope request.mode octets.now
         (W.contents out.old) (W.contents out.new) result }
-    ensures silent { result ≡ Written → Keeps (E.contents err.old) (E.contents err.new) }
+    ensures silent { result ≡ Done → Keeps (E.contents err.old) (E.contents err.new) }
 {
     let scope = request.scope;
     if octets.len() < scope.from {
-        tell(err, place, "the octets end before the offset");
+        let why = "the octets end before the offset";
+        tell(alloc, PROGRAM, place, why, err);
         return Status::Refused;
     }
     let listed = octets.split_at(scope.from).1;
     match list(alloc, request.mode, scope, listed, out) {
         Ok(()) => match out.flush() {
-            Ok(()) => Status::Written,
-            Err(_) => tell_unwritten(err),
+            Ok(()) => Status::Done,
+            Err(_) => tell_unwritten(PROGRAM, err),
         },
         Err(error) => {
             let _ = out.flush();
-            tell_error(err, place, &error)
-        }
-    }
-}
-
-/// Returns the octets of a block, or says on `err` why it has none, and returns the status.
-pub(crate) fn octets_in<E: io::Write>(
-    alloc: Global,
-    place: Place<'_>,
-    block: Block<'_>,
-    err: &mut E,
-) -> Result<Vec<u8>, Status>
-    ensures octets { IfOk result (λ v. HasOctets block.entry v.items) }
-    ensures silent { OnOk result (Keeps (E.contents err.old) (E.contents err.new)) }
-    ensures told { IfErr result (λ status. status ≢ Written) }
-{
-    let body = match block.body {
-        Ok(body) => body,
-        Err(why) => {
-            tell_unended(err, place, why);
-            return Err(Status::Refused);
-        }
-    };
-    if let Some(name) = header_in(body) {
-        tell_header(err, place, name);
-        return Err(Status::Refused);
-    }
-    match from_base64(alloc, body) {
-        Ok(octets) => Ok(octets),
-        Err(Misspelled::NoMemory) => Err(tell_no_memory(err)),
-        Err(Misspelled::Form) => {
-            tell(err, place, "it isn't in base 64");
-            Err(Status::Refused)
+            tell_error(alloc, place, &error, err)
         }
     }
 }
@@ -96,15 +63,19 @@ fn run_body<W: io::Write, E: io::Write>(
     out: &mut W,
     err: &mut E,
 ) -> Status
-    ensures listed { result ≡ Written
+    ensures listed { result ≡ Done
         → BlockListed request block.entry (W.contents out.old) (W.contents out.new) }
     ensures bound { IsBound request.scope request.mode
         (W.contents out.old) (W.contents out.new) result }
-    ensures silent { result ≡ Written → Keeps (E.contents err.old) (E.contents err.new) }
+    ensures silent { result ≡ Done → Keeps (E.contents err.old) (E.contents err.new) }
 {
-    match octets_in(alloc, place, block, err) {
+    match octets_in(alloc, block) {
         Ok(octets) => run_octets(alloc, request, place, &octets, out, err),
-        Err(status) => status,
+        Err(BlockError::NoMemory) => tell_no_memory(PROGRAM, err),
+        Err(error) => {
+            tell(alloc, PROGRAM, place, error, err);
+            Status::Refused
+        }
     }
 }
 
@@ -118,15 +89,15 @@ fn run_block<W: io::Write, E: io::Write>(
     out: &mut W,
     err: &mut E,
 ) -> Status
-    ensures listed { result ≡ Written
+    ensures listed { result ≡ Done
         → BlockTitled request is_first block.entry (W.contents out.old) (W.contents out.new) }
     ensures bound { IsBound request.scope request.mode
         (W.contents out.old) (W.contents out.new) result }
-    ensures silent { result ≡ Written → Keeps (E.contents err.old) (E.contents err.new) }
+    ensures silent { result ≡ Done → Keeps (E.contents err.old) (E.contents err.new) }
 {
     match write_title(alloc, is_first, block.label, out) {
         Ok(()) => run_body(alloc, request, place, block, out, err),
-        Err(error) => tell_error(err, place, &error),
+        Err(error) => tell_error(alloc, place, &error, err),
     }
 }
 
@@ -139,21 +110,22 @@ fn run_blocks<W: io::Write, E: io::Write>(
     out: &mut W,
     err: &mut E,
 ) -> Status
-    ensures some { result ≡ Written → (block : TheBlock) × IsNext octets.now block }
-    ensures listed { result ≡ Written
+    ensures some { result ≡ Done → (block : TheBlock) × IsNext octets.now block }
+    ensures listed { result ≡ Done
         → BlocksListed request true octets.now (W.contents out.old) (W.contents out.new) }
     ensures bound { IsBound request.scope request.mode
         (W.contents out.old) (W.contents out.new) result }
-    ensures silent { result ≡ Written → Keeps (E.contents err.old) (E.contents err.new) }
+    ensures silent { result ≡ Done → Keeps (E.contents err.old) (E.contents err.new) }
 {
     let Some(_) = next_block(octets) else {
-        tell(err, Place { file, block: None }, "there is no block");
+        let place = Place { file, block: None };
+        tell(alloc, PROGRAM, place, "there is no block", err);
         return Status::Refused;
     };
     let mut rest = octets;
     let mut number = 0usize;
     let mut is_first = true;
-    let mut status = Status::Written;
+    let mut status = Status::Done;
     while let Some(block) = next_block(rest) {
         rest = block.rest;
         number = number.saturating_add(1);
@@ -171,17 +143,6 @@ fn run_blocks<W: io::Write, E: io::Write>(
     status
 }
 
-/// Returns whether octets are to be read as blocks.
-pub(crate) fn has_blocks(form: Option<Form>, octets: &[u8]) -> bool
-    ensures yes { result ≡ true → HasBlocks form octets.now }
-    ensures no { result ≡ false → HasNoBlocks form octets.now }
-{
-    match form {
-        Some(form) => form == Form::Pem,
-        None => next_block(octets).is_some(),
-    }
-}
-
 /// Lists what was read of a file, in the form that is asked for or found.
 fn run_read<W: io::Write, E: io::Write>(
     alloc: Global,
@@ -191,22 +152,23 @@ fn run_read<W: io::Write, E: io::Write>(
     out: &mut W,
     err: &mut E,
 ) -> Status
-    ensures input { result ≡ Written
+    ensures input { result ≡ Done
         → IsInput request octets.now (W.contents out.old) (W.contents out.new) }
     ensures bound { IsBound request.scope request.mode
         (W.contents out.old) (W.contents out.new) result }
-    ensures silent { result ≡ Written → Keeps (E.contents err.old) (E.contents err.new) }
+    ensures silent { result ≡ Done → Keeps (E.contents err.old) (E.contents err.new) }
 {
     if has_blocks(request.form, octets) {
         return run_blocks(alloc, request, file, octets, out, err);
     }
     let place = Place { file, block: None };
     match spelled_in(alloc, request.mode, request.form, octets) {
-        Ok(Spelled::Octets(spelled)) => run_octets(alloc, request, place, &spelled, out, err),
-        Ok(Spelled::Nothing) => run_octets(alloc, request, place, octets, out, err),
-        Err(Misspelled::NoMemory) => tell_no_memory(err),
+        Ok(Some(spelled)) => run_octets(alloc, request, place, &spelled, out, err),
+        Ok(None) => run_octets(alloc, request, place, octets, out, err),
+        Err(Misspelled::NoMemory) => tell_no_memory(PROGRAM, err),
         Err(Misspelled::Form) => {
-            tell(err, place, "it isn't in the form that is asked for");
+            let why = "it isn't in the form that is asked for";
+            tell(alloc, PROGRAM, place, why, err);
             Status::Refused
         }
     }
@@ -222,11 +184,11 @@ fn run_input<W: io::Write, E: io::Write>(
     out: &mut W,
     err: &mut E,
 ) -> Status
-    ensures file { result ≡ Written
+    ensures file { result ≡ Done
         → IsFile request is_only is_first input.now (W.contents out.old) (W.contents out.new) }
     ensures bound { IsBound request.scope request.mode
         (W.contents out.old) (W.contents out.new) result }
-    ensures silent { result ≡ Written → Keeps (E.contents err.old) (E.contents err.new) }
+    ensures silent { result ≡ Done → Keeps (E.contents err.old) (E.contents err.new) }
 {
     let octets = match &input.octets {
         Ok(octets) => octets,
@@ -235,7 +197,7 @@ fn run_input<W: io::Write, E: io::Write>(
                 file: Some(input.title()),
                 block: None,
             };
-            let _ = write!(err, "{place}{error}\n");
+            tell(alloc, PROGRAM, place, error, err);
             return Status::Unread;
         }
     };
@@ -250,14 +212,14 @@ fn run_input<W: io::Write, E: io::Write>(
                 file: Some(name),
                 block: None,
             };
-            tell_error(err, place, &error)
+            tell_error(alloc, place, &error, err)
         }
     }
 }
 
 /// Returns whether nothing is listed yet, behind a file.
 fn stays_first(is_first: bool, found: Status) -> bool
-    ensures { found ≡ Written → result ≡ false }
+    ensures { found ≡ Done → result ≡ false }
 {
     match found {
         Status::Unread => is_first,
@@ -274,14 +236,14 @@ fn run_inputs<W: io::Write, E: io::Write>(
     out: &mut W,
     err: &mut E,
 ) -> Status
-    ensures files { result ≡ Written
+    ensures files { result ≡ Done
         → FilesListed request (length inputs.now == 1) true inputs.now
         (W.contents out.old) (W.contents out.new) }
     ensures bound { IsBound request.scope request.mode
         (W.contents out.old) (W.contents out.new) result }
-    ensures silent { result ≡ Written → Keeps (E.contents err.old) (E.contents err.new) }
+    ensures silent { result ≡ Done → Keeps (E.contents err.old) (E.contents err.new) }
 {
-    let mut status = Status::Written;
+    let mut status = Status::Done;
     let mut is_first = true;
     for input in inputs {
         let found = run_input(alloc, request, inputs.len() == 1, is_first, input, out, err);
@@ -303,18 +265,18 @@ pub fn run<W: io::Write + Drop, E: io::Write>(
     out: &mut BufWriter<W>,
     err: &mut E,
 ) -> Status
-    ensures files { result ≡ Written
+    ensures files { result ≡ Done
         → FilesListed request (length inputs.now == 1) true inputs.now
         (writer_contents W.contents out.old) (writer_contents W.contents out.new) }
-    ensures flushed { result ≡ Written → writer_buffer out.new ≡ [] }
+    ensures flushed { result ≡ Done → writer_buffer out.new ≡ [] }
     ensures bound { IsBound request.scope request.mode
         (writer_contents W.contents out.old) (writer_contents W.contents out.new) result }
-    ensures silent { result ≡ Written → Keeps (E.contents err.old) (E.contents err.new) }
+    ensures silent { result ≡ Done → Keeps (E.contents err.old) (E.contents err.new) }
 {
     match run_inputs(alloc, request, inputs, out, err) {
-        Status::Written => match out.flush() {
-            Ok(()) => Status::Written,
-            Err(_) => tell_unwritten(err),
+        Status::Done => match out.flush() {
+            Ok(()) => Status::Done,
+            Err(_) => tell_unwritten(PROGRAM, err),
         },
         status => status,
     }

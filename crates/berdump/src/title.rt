@@ -1,34 +1,19 @@
 //! The lines that name what is listed.
-ghost use Rattle.std.specs.Prelude.{IfOk, OnOk, IfErr, string_bytes, true};
+ghost use Rattle.std.specs.Prelude.{IfOk, OnOk, IfErr, string_bytes};
 ghost use Rattle.berdump.specs.Runs.{IsTitle, Titled, IsUntitled};
 
 use crate::list::ListError;
 use bcder::NoMemory;
 use bcder::encode::write_octets;
-use cli::shown::{ShownOctets, is_shown};
+use cli::shown::{ShownOctets, line_of};
 use std::alloc::Global;
 use std::io;
-
-/// Returns the line that names what follows. It has no control character; the check for them proves
-/// that it is one line.
-fn line_of(alloc: Global, name: &[u8]) -> Result<String, NoMemory>
-    ensures { IfOk result (λ line. IsTitle true (string_bytes line)) }
-{
-    let mut shown = String::new(alloc);
-    write!(shown, "{}:", ShownOctets(name))?;
-    let mut line = String::new(alloc);
-    if is_shown(shown.as_str()) {
-        line.push_str(shown.as_str())?;
-    }
-    line.push_str("\n")?;
-    Ok(line)
-}
 
 /// Returns the line that names what follows, behind an empty line unless it is the first.
 fn title_of(alloc: Global, is_first: bool, name: &[u8]) -> Result<String, NoMemory>
     ensures { IfOk result (λ title. IsTitle is_first (string_bytes title)) }
 {
-    let line = line_of(alloc, name)?;
+    let line = line_of(alloc, format_args!("{}:", ShownOctets(name)))?;
     if is_first {
         return Ok(line);
     }

@@ -2,21 +2,21 @@
 ghost use Rattle.std.specs.Prelude.{◌≡◌, ℕ, List};
 ghost use Rattle.std.specs.Io.KnownBytes.{Keeps};
 ghost use Rattle.cli.specs.declared.pem.Block.{Block as TheBlock};
-ghost use Rattle.cli.specs.Pem.{IsNext};
-ghost use Rattle.berdump.specs.declared.status.Status.TheVariants.{Written};
-ghost use Rattle.berdump.specs.Runs.{HasOctets, ValueWritten, IsValueOf, FirstWritten};
+ghost use Rattle.cli.specs.declared.status.Status.TheVariants.{Done};
+ghost use Rattle.cli.specs.Pem.{HasOctets, IsNext};
+ghost use Rattle.berdump.specs.Runs.{ValueWritten, FirstWritten};
 
 use crate::list::{ListError, find};
 use crate::request::Request;
-use crate::run::{has_blocks, octets_in};
 use crate::scope::Scope;
-use crate::spelled::{Spelled, spelled_in};
-use crate::status::Status;
-use crate::tell::{Place, tell, tell_error, tell_no_memory, tell_unwritten};
+use crate::tell::{NOWHERE, PROGRAM, tell_error};
 use bcder::encode::write_octets;
 use cli::files::Input;
 use cli::form::Misspelled;
-use cli::pem::next_block;
+use cli::pem::{BlockError, has_blocks, next_block, octets_in};
+use cli::spelled::spelled_in;
+use cli::status::Status;
+use cli::tell::{Place, tell, tell_no_memory, tell_unwritten};
 use std::alloc::Global;
 use std::io;
 
@@ -30,9 +30,9 @@ fn run_octets<W: io::Write, E: io::Write>(
     out: &mut W,
     err: &mut E,
 ) -> Status
-    ensures written { result ≡ Written
+    ensures written { result ≡ Done
         → ValueWritten request at octets.now (W.contents out.old) (W.contents out.new) }
-    ensures silent { result ≡ Written → Keeps (E.contents err.old) (E.contents err.new) }
+    ensures silent { result ≡ Done → Keeps (E.contents err.old) (E.contents err.new) }
 {
     let scope = Scope {
         from: 0,
@@ -41,16 +41,17 @@ fn run_octets<W: io::Write, E: io::Write>(
     match find(alloc, request.mode, scope, octets, at, &mut io::sink()) {
         Ok(Some(contents)) => match write_octets(out, contents) {
             Ok(()) => match out.flush() {
-                Ok(()) => Status::Written,
-                Err(_) => tell_unwritten(err),
+                Ok(()) => Status::Done,
+                Err(_) => tell_unwritten(PROGRAM, err),
             },
-            Err(_) => tell_unwritten(err),
+            Err(_) => tell_unwritten(PROGRAM, err),
         },
         Ok(None) => {
-            let _ = write!(err, "{place}octet {at}: no value begins here\n");
+            let why = format_args!("octet {at}: no value begins here");
+            tell(alloc, PROGRAM, place, why, err);
             Status::Refused
         }
-        Err(error) => tell_error(err, place, &error),
+        Err(error) => tell_error(alloc, place, &error, err),
     }
 }
 
@@ -63,26 +64,26 @@ fn run_block<W: io::Write, E: io::Write>(
     out: &mut W,
     err: &mut E,
 ) -> Status
-    ensures written { result ≡ Written
+    ensures written { result ≡ Done
         → (block : TheBlock) × (v : List ℕ) × IsNext octets.now block × HasOctets block v
         × ValueWritten request at v (W.contents out.old) (W.contents out.new) }
-    ensures silent { result ≡ Written → Keeps (E.contents err.old) (E.contents err.new) }
+    ensures silent { result ≡ Done → Keeps (E.contents err.old) (E.contents err.new) }
 {
     let Some(block) = next_block(octets) else {
-        let place = Place {
-            file: None,
-            block: None,
-        };
-        tell(err, place, "there is no block");
+        tell(alloc, PROGRAM, NOWHERE, "there is no block", err);
         return Status::Refused;
     };
     let place = Place {
         file: None,
         block: Some((1, block.label)),
     };
-    match octets_in(alloc, place, block, err) {
+    match octets_in(alloc, block) {
         Ok(octets) => run_octets(alloc, request, at, place, &octets, out, err),
-        Err(status) => status,
+        Err(BlockError::NoMemory) => tell_no_memory(PROGRAM, err),
+        Err(error) => {
+            tell(alloc, PROGRAM, place, error, err);
+            Status::Refused
+        }
     }
 }
 
@@ -96,25 +97,21 @@ pub fn run<W: io::Write, E: io::Write>(
     out: &mut W,
     err: &mut E,
 ) -> Status
-    ensures written { result ≡ Written
+    ensures written { result ≡ Done
         → FirstWritten request at inputs.now (W.contents out.old) (W.contents out.new) }
-    ensures silent { result ≡ Written → Keeps (E.contents err.old) (E.contents err.new) }
+    ensures silent { result ≡ Done → Keeps (E.contents err.old) (E.contents err.new) }
 {
-    let place = Place {
-        file: None,
-        block: None,
-    };
     let [input, ..] = inputs else {
-        return Status::Written;
+        return Status::Done;
     };
     let octets = match &input.octets {
         Ok(octets) => octets,
         Err(error) => {
-            let name = Place {
+            let place = Place {
                 file: Some(input.title()),
                 block: None,
             };
-            let _ = write!(err, "{name}{error}\n");
+            tell(alloc, PROGRAM, place, error, err);
             return Status::Unread;
         }
     };
@@ -122,13 +119,12 @@ pub fn run<W: io::Write, E: io::Write>(
         return run_block(alloc, request, at, octets, out, err);
     }
     match spelled_in(alloc, request.mode, request.form, octets) {
-        Ok(Spelled::Octets(spelled)) => {
-            run_octets(alloc, request, at, place, &spelled, out, err)
-        }
-        Ok(Spelled::Nothing) => run_octets(alloc, request, at, place, octets, out, err),
-        Err(Misspelled::NoMemory) => tell_no_memory(err),
+        Ok(Some(spelled)) => run_octets(alloc, request, at, NOWHERE, &spelled, out, err),
+        Ok(None) => run_octets(alloc, request, at, NOWHERE, octets, out, err),
+        Err(Misspelled::NoMemory) => tell_no_memory(PROGRAM, err),
         Err(Misspelled::Form) => {
-            tell(err, place, "it isn't in the form that is asked for");
+            let why = "it isn't in the form that is asked for";
+            tell(alloc, PROGRAM, NOWHERE, why, err);
             Status::Refused
         }
     }

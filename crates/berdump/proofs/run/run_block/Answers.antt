@@ -10,5 +10,5 @@ returns-in-Ok-clause-bound g c = bound_join c.args.request.scope c.args.request.
 
 pub returns-in-Err-clause-bound : goal.returns-in-Err-clause-bound
 returns-in-Err-clause-bound g c = bound_untitled c.args.request.scope c.args.request.mode c.args.is_first (g.W.Write.contents c.args.out.now)
-    (g.W.Write.contents c.write_title.new.out) (g.W.Write.contents c.write_title.new.out) c.in-Err.error c.tell_error.result c.tell_error.ensures
+    (g.W.Write.contents c.write_title.new.out) (g.W.Write.contents c.write_title.new.out) c.in-Err.error c.tell_error.result c.tell_error.ensures.status
     c.in-Err.ensures.untitled (Keeps-refl (g.W.Write.contents c.write_title.new.out))

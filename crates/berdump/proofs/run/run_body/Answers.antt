@@ -1,6 +1,5 @@
 use Rattle.std.proofs.Common.{subst}
 use Rattle.berdump.specs.Runs.{IsWhole}
-use Rattle.std.proofs.KnownBytes.{Keeps-trans}
 use Rattle.berdump.proofs.Running.{whole_ends, bound_ends}
 use Rattle.berdump.proofs.run.run_body.Goals as goal
 
@@ -16,7 +15,3 @@ returns-in-Ok-clause-listed g c = λ z. (
 pub returns-in-Ok-clause-bound : goal.returns-in-Ok-clause-bound
 returns-in-Ok-clause-bound g c = bound_ends c.args.request.scope c.args.request.mode c.deref.result.now (g.W.Write.contents c.args.out.now)
     (g.W.Write.contents c.run_octets.new.out) c.run_octets.result c.run_octets.ensures.ends
-
-pub returns-in-Ok-clause-silent : goal.returns-in-Ok-clause-silent
-returns-in-Ok-clause-silent g c = λ z. Keeps-trans (g.E.Write.contents c.args.err.now) (g.E.Write.contents c.octets_in.new.err)
-    (g.E.Write.contents c.run_octets.new.err) c.in-Ok.ensures.silent (c.run_octets.ensures.silent z)

@@ -1,6 +1,6 @@
 use Rattle.std.proofs.Common.{subst}
-use Rattle.cli.specs.Pem.{IsNext}
-use Rattle.berdump.specs.Runs.{IsFirst, HasBlocks}
+use Rattle.cli.specs.Pem.{HasBlocks, IsNext}
+use Rattle.berdump.specs.Runs.{IsFirst}
 use Rattle.berdump.proofs.Running.{first_written}
 use Rattle.berdump.proofs.value.run.Goals as goal
 
