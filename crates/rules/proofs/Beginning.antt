@@ -1,12 +1,14 @@
 -- What octets begin with.
 use Rattle.std.proofs.Common.{◌≡◌, ℕ, ◌-◌, ◌<◌, ◌≤◌, Bool, List, ◌++◌, length, take, drop, Option, Some, None, refl, sym, ap, ap₂, subst, ◌∙◌, arith}
-use Rattle.std.proofs.lemmas.List.{length-append, length-take-le, take-append-drop}
+use Rattle.std.proofs.lemmas.List.{length-append, length-take-le, take_at, take-append-drop}
 use Rattle.bcder.specs.declared.mode.Mode.{Mode}
 use Rattle.bcder.specs.declared.mode.Mode.TheVariants.{Ber}
 use Rattle.bcder.specs.x690.Encoding.{IsHeader}
-use Rattle.bcder.specs.x690.Identifier.{Tag}
+use Rattle.bcder.specs.x690.Identifier.{AreOctets, Tag}
 use Rattle.bcder.specs.calls.ContentsLen.{length_of}
 use Rattle.bcder.specs.laws.Canonical.{header_in_ber}
+use Rattle.bcder.specs.laws.Sound.{AreOctets-take}
+use Rattle.bcder.specs.laws.Stands.{AreOctets-after}
 use Rattle.encodings.specs.Open.{Open, GoesBeyond}
 use Rattle.encodings.specs.Pieces as pieces
 use Rattle.rules.specs.Begun.{BeginsValue, of_definite, of_indefinite}
@@ -39,6 +41,12 @@ pub as_piece : (mode : Mode) (x : List ℕ) (t : Tag) (f : Bool) (size : ℕ) (c
     → pieces.BeginsPiece mode x t f c o
 as_piece mode x t f size c o (of_definite h b d e is s) = pieces.of_definite h b d e is
 as_piece mode x t f size c o (of_indefinite h d e is s) = pieces.of_indefinite h d e is
+
+pub octets_inside : (mode : Mode) (x : List ℕ) (t : Tag) (f : Bool) (size : ℕ) (c : List ℕ) (o : Open) → AreOctets x → BeginsValue mode x t f size c o
+    → AreOctets c
+octets_inside mode x t f size c o octets (of_definite h b d e is s) =
+    subst AreOctets (take_at c b (length c) refl) (AreOctets-take (length c) (c ++ b) (AreOctets-after h x (c ++ b) is octets))
+octets_inside mode x t f size c o octets (of_indefinite h d e is s) = AreOctets-after h x c is octets
 
 pub value_in_ber : (mode : Mode) (x : List ℕ) (t : Tag) (f : Bool) (size : ℕ) (c : List ℕ) (o : Open) → BeginsValue mode x t f size c o
     → BeginsValue Ber x t f size c o

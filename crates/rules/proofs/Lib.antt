@@ -7,3 +7,5 @@ pub mod Contents
 pub mod Cells
 pub mod Reals
 pub mod Cases
+pub mod Placing
+pub mod Following

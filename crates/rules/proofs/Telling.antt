@@ -1,5 +1,5 @@
 -- What is told on the way.
-use Rattle.std.proofs.Common.{◌≡◌, ℕ, ◌+◌, ◌<◌, Bool, true, false, List, [], ◌∷◌, ◌++◌, length, Some, None, refl, sym, ap, ◌∙◌, append_assoc}
+use Rattle.std.proofs.Common.{◌≡◌, ℕ, ◌+◌, ◌<◌, Bool, true, false, List, [], ◌∷◌, ◌++◌, length, Some, None, refl, sym, ap, subst, ◌∙◌, append_assoc}
 use Rattle.std.proofs.Common.{ap₂, zero, suc, ◌⊎◌, append-nil, arith}
 use Rattle.std.specs.Prelude.{All, Result, Ok, Err, IfOk}
 use Rattle.std.proofs.lemmas.List.{length-append}
@@ -18,12 +18,15 @@ use Rattle.encodings.proofs.PiecesRead.{an_end_next, none_next, value_next, begi
 use Rattle.rules.specs.Begun.{BeginsValue}
 use Rattle.rules.specs.Broken.{Breaks, BreaksValue, in_value, stray_end, Holds}
 use Rattle.rules.specs.Means.{IsMeantAlone}
+use Rattle.rules.specs.Around.{met_meant}
 use Rattle.rules.specs.Passes.{Adds, Looks, nothing, told, Enters, Onward, PassesValue, PassesBroken, Passes}
-use Rattle.rules.specs.Passes.{no_rest, one_is_broken, Judges, clean, wrong}
+use Rattle.rules.specs.Passes.{of_value, of_beginning, of_end, IsJudged, kept, broken, Judges, passes, loses}
+use Rattle.rules.specs.declared.around.Met.{Met}
+use Rattle.rules.specs.declared.around.Met.TheVariants.{End, Lost}
 use Rattle.rules.specs.declared.rule.Breach.{Breach}
 use Rattle.rules.specs.declared.rule.Rule.{Rule}
 use Rattle.rules.specs.declared.rule.Rule.TheVariants as rule
-use Rattle.rules.proofs.Beginning.{as_piece}
+use Rattle.rules.proofs.Beginning.{as_piece, octets_inside}
 use Rattle.rules.proofs.Going.{closes_goes, value_goes}
 
 All-one : {X : Type 0} (P : X → Type 0) (x : X) → P x → All P (x ∷ [])
@@ -66,49 +69,56 @@ longer_still mode os x at old mid new l a = omega (arith, l, ap length a.is, len
 
 -- ---- whether it is right
 
+module _ (mode : Mode) (contents : Bool) (t : Tag) (size : ℕ) (c : List ℕ) (at : ℕ) (old new : List Breach) where
+  value_judged : Looks mode contents t false size c at old new → IsJudged mode contents (value t c) old new
+  value_judged (nothing e m) = kept e m
+  value_judged (told rule place e k br n) = broken (longer_by_one old new _ e) (λ m. n (m k))
+
+  beginning_judged : Looks mode contents t true size c at old new → IsJudged mode contents (begins t) old new
+  beginning_judged (nothing e m) = kept e m
+  beginning_judged (told rule place e k br n) = broken (longer_by_one old new _ e) (λ m. n (m k))
+
 value_judges : (mode : Mode) (contents : Bool) (x : List ℕ) (t : Tag) (f : Bool) (size : ℕ) (c : List ℕ) (o : Open) (os ps : List Open)
     (y : List ℕ) (at then : ℕ) (old new : List Breach) → AreOctets x → IsDue mode os x → BeginsValue mode x t f size c o
-    → Enters f size c o at os ps y then → Looks mode contents t f size c at old new → Judges mode contents os x ps y old new
-value_judges mode contents x t false size c o os ps y at then old new octets due b i (nothing e m) =
-    clean e (value t c) (value_next mode os x t false c o y octets due (as_piece mode x t false size c o b) refl i.1
-    ∙ ap (λ k. before_all (value t c ∷ []) (pieces_left mode k y)) (sym i.0)) m
-value_judges mode contents x t true size c o os ps y at then old new octets due b i (nothing e m) =
-    clean e (begins t) (beginning_next mode os x t true c o octets due (as_piece mode x t true size c o b) refl
-    ∙ ap₂ (λ k z. before_all (begins t ∷ []) (pieces_left mode k z)) (sym i.0) (sym i.1)) m
-value_judges mode contents x t false size c o os ps y at then old new octets due b i (told rule place e k br n) =
-    wrong (longer_by_one old new _ e) (one_is_broken (value t c) (pieces_left mode os y)
-    (value_next mode os x t false c o y octets due (as_piece mode x t false size c o b) refl i.1) (λ m. n (m k)))
-value_judges mode contents x t true size c o os ps y at then old new octets due b i (told rule place e k br n) =
-    wrong (longer_by_one old new _ e) (one_is_broken (begins t) (pieces_left mode (o ∷ os) c)
-    (beginning_next mode os x t true c o octets due (as_piece mode x t true size c o b) refl) (λ m. n (m k)))
+    → Enters f size c o at os ps y then → Looks mode contents t f size c at old new → Judges mode contents os x at ps y then old new (met_meant t f)
+value_judges mode contents x t false size c o os ps y at then old new octets due b i l =
+    passes (value t c) (of_value t size c refl refl (subst (BeginsValue mode x t false size c) i.1 b) (octets_inside mode x t false size c o octets b) i.0 i.2)
+    (value_next mode os x t false c o y octets due (as_piece mode x t false size c o b) refl i.1
+    ∙ ap (λ k. before_all (value t c ∷ []) (pieces_left mode k y)) (sym i.0)) (value_judged mode contents t size c at old new l)
+value_judges mode contents x t true size c o os ps y at then old new octets due b i l =
+    passes (begins t) (of_beginning t size o refl refl (subst (λ z. BeginsValue mode x t true size z o) (sym i.1) b) i.0 i.2)
+    (beginning_next mode os x t true c o octets due (as_piece mode x t true size c o b) refl
+    ∙ ap₂ (λ k z. before_all (begins t ∷ []) (pieces_left mode k z)) (sym i.0) (sym i.1)) (beginning_judged mode contents t size c at old new l)
 
 -- ---- one step
 
 pub value_passed : (mode : Mode) (contents : Bool) (x : List ℕ) (t : Tag) (f : Bool) (size : ℕ) (c : List ℕ) (o : Open) (os ps : List Open)
-    (y : List ℕ) (at then : ℕ) (old new : List Breach) → AreOctets x → IsDue mode os x → BeginsValue mode x t f size c o
-    → PassesValue mode contents t f size c o os x at old ps y then new → Passes mode contents os x at old ps y then new
-value_passed mode contents x t f size c o os ps y at then old new octets due b p = record {
+    (y : List ℕ) (at then : ℕ) (old new : List Breach) (met : Met) → AreOctets x → IsDue mode os x → BeginsValue mode x t f size c o → met ≡ met_meant t f
+    → PassesValue mode contents t f size c o os x at old ps y then new → Passes mode contents os x at old ps y then new met
+value_passed mode contents x t f size c o os ps y at then old new met octets due b e p = record {
   onward = p.onward;
-  judges = value_judges mode contents x t f size c o os ps y at then old new octets due b p.enters p.looks;
+  judges =
+      subst (Judges mode contents os x at ps y then old new) (sym e)
+      (value_judges mode contents x t f size c o os ps y at then old new octets due b p.enters p.looks);
 }
 
 pub beyond_passed : (mode : Mode) (contents : Bool) (x : List ℕ) (os ps : List Open) (y : List ℕ) (at then : ℕ) (old new : List Breach)
-    → AreOctets x → IsDue mode os x → GoesBeyond mode x → PassesBroken mode os x at old ps y then new → Passes mode contents os x at old ps y then new
+    → AreOctets x → IsDue mode os x → GoesBeyond mode x → PassesBroken mode os x at old ps y then new → Passes mode contents os x at old ps y then new Lost
 beyond_passed mode contents x os ps y at then old new octets due g p =
     let short : read_tree mode x ≡ None =
     too_short mode x g.tag g.form (Some g.len) g.header g.behind octets g.is_header g.is g.len refl g.more in
-    record { onward = p.onward; judges = wrong p.told (no_rest (none_next mode os x octets due short)) }
+    record { onward = p.onward; judges = loses refl p.told (none_next mode os x octets due short) }
 
 pub broken_passed : (mode : Mode) (contents : Bool) (x : List ℕ) (os ps : List Open) (y : List ℕ) (at then : ℕ) (old new : List Breach)
-    → AreOctets x → IsDue mode os x → HasNoHeader mode x → PassesBroken mode os x at old ps y then new → Passes mode contents os x at old ps y then new
+    → AreOctets x → IsDue mode os x → HasNoHeader mode x → PassesBroken mode os x at old ps y then new → Passes mode contents os x at old ps y then new Lost
 broken_passed mode contents x os ps y at then old new octets due n p =
-    record { onward = p.onward; judges = wrong p.told (no_rest (none_next mode os x octets due (no_tree mode x octets n))) }
+    record { onward = p.onward; judges = loses refl p.told (none_next mode os x octets due (no_tree mode x octets n)) }
 
 pub end_passes : (mode : Mode) (contents : Bool) (qs : List Open) (o : Open) (os : List Open) (x y : List ℕ) (at n : ℕ) (old new : List Breach)
-    → AreOctets x → qs ≡ o ∷ os → Closes mode o x y n → new ≡ old → Passes mode contents qs x at old os y (at + n) new
+    → AreOctets x → qs ≡ o ∷ os → Closes mode o x y n → new ≡ old → Passes mode contents qs x at old os y (at + n) new End
 end_passes mode contents qs o os x y at n old new octets q c e = record {
   onward = record { goes = closes_goes mode qs o os x y at n q c; adds = adds_nothing mode qs x at old new e };
-  judges = clean e ends (ap (λ k. pieces_left mode k x) q ∙ an_end_next mode o os x y n octets c) (λ k. tt);
+  judges = passes ends (of_end o n refl refl c q refl) (ap (λ k. pieces_left mode k x) q ∙ an_end_next mode o os x y n octets c) (kept e (λ k. tt));
 }
 
 -- ---- the rule that is told
@@ -159,22 +169,6 @@ module _ {P E : Type 0} (mode : Mode) (contents : Bool) (os ps : List Open) (x :
     told = longer_still mode os x at old mid new (longer_by_one old mid b e) h.adds;
   }
   told_before b (Err f) a e h = h
-
-  pub value_due : (t : Tag) (f : Bool) (size : ℕ) (c : List ℕ) (o : Open) (r : Result P E) → AreOctets x → IsDue mode os x
-      → BeginsValue mode x t f size c o → IfOk r (λ p. PassesValue mode contents t f size c o os x at old ps (rest p) (then p) new)
-      → IfOk r (λ p. Passes mode contents os x at old ps (rest p) (then p) new)
-  value_due t f size c o (Ok p) octets due b h = value_passed mode contents x t f size c o os ps (rest p) at (then p) old new octets due b h
-  value_due t f size c o (Err e) octets due b h = h
-
-  pub beyond_due : (r : Result P E) → AreOctets x → IsDue mode os x → GoesBeyond mode x
-      → IfOk r (λ p. PassesBroken mode os x at old ps (rest p) (then p) new) → IfOk r (λ p. Passes mode contents os x at old ps (rest p) (then p) new)
-  beyond_due (Ok p) octets due g h = beyond_passed mode contents x os ps (rest p) at (then p) old new octets due g h
-  beyond_due (Err e) octets due g h = h
-
-  pub broken_due : (r : Result P E) → AreOctets x → IsDue mode os x → HasNoHeader mode x
-      → IfOk r (λ p. PassesBroken mode os x at old ps (rest p) (then p) new) → IfOk r (λ p. Passes mode contents os x at old ps (rest p) (then p) new)
-  broken_due (Ok p) octets due n h = broken_passed mode contents x os ps (rest p) at (then p) old new octets due n h
-  broken_due (Err e) octets due n h = h
 
 pub beyond_some : (x : List ℕ) → GoesBeyond Ber x → 0 < length x
 beyond_some x g = omega (arith, ap length g.is, length-append g.header g.behind, header_size Ber g.tag g.form _ g.header g.is_header)

@@ -1,11 +1,13 @@
 -- What it is for octets to break a rule.
-use Rattle.std.specs.Prelude.{◌≡◌, ◌≢◌, ◌⊎◌, ℕ, ◌+◌, ◌-◌, ◌^◌, ◌<◌, ◌≤◌, Bool, true, false, List, [], ◌∷◌, length, slice_index, drop}
+use Rattle.std.specs.Prelude.{◌≡◌, ◌≢◌, ◌⊎◌, ℕ, ◌+◌, ◌-◌, ◌^◌, ◌<◌, ◌≤◌, Bool, true, false, List, [], ◌∷◌, ◌++◌, length, slice_index, drop}
 use Rattle.std.specs.Prelude.{Some, None, ⊤}
 use Rattle.bcder.specs.declared.mode.Mode.{Mode}
 use Rattle.bcder.specs.declared.mode.Mode.TheVariants.{Ber, Cer, Der}
 use Rattle.bcder.specs.x690.BitString.{AreCleared}
+use Rattle.bcder.specs.x690.Encoding.{IsEncoding, AreEncodings}
 use Rattle.bcder.specs.x690.Identifier.{Tag}
 use Rattle.bcder.specs.x690.ObjectIdentifier.{IsComplete}
+use Rattle.bcder.specs.x690.Tree.{Tree, Trees}
 use Rattle.bcder.specs.calls.Fronts.{BeginsEnd, BeginsHeader}
 use Rattle.bcder.specs.calls.Violations.{ViolatesFront}
 use Rattle.encodings.specs.Next.{IsDue}
@@ -14,6 +16,7 @@ use Rattle.rules.specs.Begun.{BeginsValue}
 use Rattle.rules.specs.Comes.{Comes}
 use Rattle.rules.specs.Kinds.{kind_of}
 use Rattle.rules.specs.Means.{HasCharacters, MayBeConstructed}
+use Rattle.rules.specs.Placed.{last_of, MayCome}
 use Rattle.rules.specs.Reals.{IsReal, IsStrictReal}
 use Rattle.rules.specs.declared.kind.Kind.{Kind}
 use Rattle.rules.specs.declared.kind.Kind.TheVariants as k
@@ -108,6 +111,9 @@ pub data Breaks (mode : Mode) (os : List Open) (x : List ℕ) (rule : Rule) (pla
   value_too_long : rule ≡ r.ValueTooLong → GoesBeyond Ber x → IsInDefinite os → place ≡ 0 → Breaks mode os x rule place
   stray_end : rule ≡ r.StrayEnd → IsEnd mode x → IsDue mode os x → place ≡ 0 → Breaks mode os x rule place
   missing_end : (ps : List Open) → rule ≡ r.MissingEnd → x ≡ [] → os ≡ None ∷ ps → place ≡ 0 → Breaks mode os x rule place
+  out_of_order : (t : Tag) (size : ℕ) (c : List ℕ) (behind : Open) (us : Trees) (v : Tree) (front w z : List ℕ) → rule ≡ r.OutOfOrder
+      → BeginsValue mode x t true size c behind → AreEncodings mode us front → IsEncoding mode v w → c ≡ front ++ (w ++ z)
+      → (MayCome mode t (last_of us) v → ⊥) → place ≡ size + length front → Breaks mode os x rule place
   in_value : (t : Tag) (form : Bool) (size : ℕ) (c : List ℕ) (behind : Open) → BeginsValue Ber x t form size c behind
       → BreaksValue mode t form size c rule place → Breaks mode os x rule place
 

@@ -15,6 +15,7 @@ use Rattle.bcder.specs.x690.Utf8.{utf8_step}
 use Rattle.bcder.specs.x690.Tree.{Tree, primitive, constructed, Trees, no_trees, ◌∷ₜ◌}
 use Rattle.encodings.specs.Pieces.{Piece, value, begins, ends}
 use Rattle.rules.specs.Kinds.{kind_of}
+use Rattle.rules.specs.Placed.{AreInPlace}
 use Rattle.rules.specs.Characters.{AreCells, AreCodePoints, AreVisible}
 use Rattle.rules.specs.Reals.{IsReal, IsStrictReal}
 use Rattle.rules.specs.Times.{IsGeneralizedTime, IsGeneralizedTimeInBer, IsUtcTime, IsUtcTimeInBer}
@@ -114,8 +115,10 @@ IsPieceMeant mode (value t c) = MeansOne mode (kind_of t) c
 IsPieceMeant mode (begins t) = MayBeConstructed mode (kind_of t)
 IsPieceMeant mode ends = ⊤
 
--- octets are encodings of values, one after the other, each of which means one of its type if `contents`
+-- octets are encodings of values, one after the other; if `contents`, each of them means one of its type, and may come behind the one
+-- before it
 pub record AreRight (mode : Mode) (contents : Bool) (w : List ℕ) : Type 0 where
   pub values : Trees
   pub encode : AreEncodings mode values w
   pub meant : contents ≡ true → AreMeant mode values
+  pub placed : contents ≡ true → AreInPlace mode values

@@ -1,14 +1,20 @@
 -- What one step of the walk does.
-use Rattle.std.specs.Prelude.{◌≡◌, ℕ, ◌+◌, ◌*◌, ◌<◌, Bool, true, false, List, [], ◌∷◌, ◌++◌, length, Option, Some, None, All}
+use Rattle.std.specs.Prelude.{◌≡◌, ℕ, ◌+◌, ◌*◌, ◌<◌, Bool, true, false, List, [], ◌∷◌, ◌++◌, length, Some, None, All}
 use Rattle.bcder.specs.declared.mode.Mode.{Mode}
 use Rattle.bcder.specs.declared.mode.Mode.TheVariants.{Ber}
-use Rattle.bcder.specs.x690.Identifier.{Tag}
+use Rattle.bcder.specs.x690.Identifier.{AreOctets, Tag}
 use Rattle.bcder.specs.x690.Length.{IsEndOfContents}
-use Rattle.encodings.specs.Open.{Open, to_come}
-use Rattle.encodings.specs.Pieces.{Piece, pieces_left, before_all}
+use Rattle.encodings.specs.Open.{Closes, Open, to_come}
+use Rattle.encodings.specs.Pieces.{Piece, value, begins, ends, pieces_left, before_all}
+use Rattle.rules.specs.Around.{AreAround, met_meant}
+use Rattle.rules.specs.Begun.{BeginsValue}
 use Rattle.rules.specs.Broken.{BreaksValue, Holds}
 use Rattle.rules.specs.Comes.{Comes}
-use Rattle.rules.specs.Means.{IsMeantAlone, IsPieceMeant}
+use Rattle.rules.specs.Means.{AreRight, IsMeantAlone, IsPieceMeant}
+use Rattle.rules.specs.Placed.{ArePlaced, open_behind}
+use Rattle.rules.specs.declared.around.Enclosing.{Enclosing}
+use Rattle.rules.specs.declared.around.Met.{Met}
+use Rattle.rules.specs.declared.around.Met.TheVariants as m
 use Rattle.rules.specs.declared.rule.Breach.{Breach}
 use Rattle.rules.specs.declared.rule.Rule.{Rule}
 
@@ -69,21 +75,52 @@ pub record PassesBroken (mode : Mode) (os : List Open) (x : List ℕ) (at : ℕ)
 abbrev pub IsKept : Mode → Bool → Piece → Type 0
 IsKept mode contents p = contents ≡ true → IsPieceMeant mode p
 
--- the octets to come aren't the rest of values, or the next piece breaks a rule
-pub data IsWrong (mode : Mode) (contents : Bool) (os : List Open) (x : List ℕ) : Type 0 where
-  no_rest : pieces_left mode os x ≡ None → IsWrong mode contents os x
-  one_is_broken : (p : Piece) (r : Option (List Piece)) → pieces_left mode os x ≡ before_all (p ∷ []) r → (IsKept mode contents p → ⊥)
-      → IsWrong mode contents os x
+-- a piece was passed, from the octets x inside the open values os to y inside ps, and what is told of it
+pub data IsMet (mode : Mode) (os : List Open) (x : List ℕ) (at : ℕ) (ps : List Open) (y : List ℕ) (then : ℕ) (p : Piece) (met : Met) : Type 0 where
+  of_value : (t : Tag) (size : ℕ) (c : List ℕ) → p ≡ value t c → met ≡ met_meant t false → BeginsValue mode x t false size c (Some y)
+      → AreOctets c → ps ≡ os → then ≡ at + size + length c → IsMet mode os x at ps y then p met
+  of_beginning : (t : Tag) (size : ℕ) (o : Open) → p ≡ begins t → met ≡ met_meant t true → BeginsValue mode x t true size y o → ps ≡ o ∷ os
+      → then ≡ at + size → IsMet mode os x at ps y then p met
+  of_end : (o : Open) (n : ℕ) → p ≡ ends → met ≡ m.End → Closes mode o x y n → os ≡ o ∷ ps → then ≡ at + n → IsMet mode os x at ps y then p met
 
--- nothing was added, and the next piece was passed, which breaks no rule; or something was added, and not without reason
-pub data Judges (mode : Mode) (contents : Bool) (os : List Open) (x : List ℕ) (ps : List Open) (y : List ℕ)
-    (old new : List Breach) : Type 0 where
-  clean : new ≡ old → (p : Piece) → pieces_left mode os x ≡ before_all (p ∷ []) (pieces_left mode ps y) → IsKept mode contents p
-      → Judges mode contents os x ps y old new
-  wrong : length old < length new → IsWrong mode contents os x → Judges mode contents os x ps y old new
+-- a piece breaks no rule of contents octets, and nothing was added; or it does, and something was
+pub data IsJudged (mode : Mode) (contents : Bool) (p : Piece) (old new : List Breach) : Type 0 where
+  kept : new ≡ old → IsKept mode contents p → IsJudged mode contents p old new
+  broken : length old < length new → (IsKept mode contents p → ⊥) → IsJudged mode contents p old new
+
+-- the next piece was passed; or the octets to come aren't the rest of values, and something was added
+pub data Judges (mode : Mode) (contents : Bool) (os : List Open) (x : List ℕ) (at : ℕ) (ps : List Open) (y : List ℕ) (then : ℕ)
+    (old new : List Breach) (met : Met) : Type 0 where
+  passes : (p : Piece) → IsMet mode os x at ps y then p met → pieces_left mode os x ≡ before_all (p ∷ []) (pieces_left mode ps y)
+      → IsJudged mode contents p old new → Judges mode contents os x at ps y then old new met
+  loses : met ≡ m.Lost → length old < length new → pieces_left mode os x ≡ None → Judges mode contents os x at ps y then old new met
 
 -- one step of the walk
 pub record Passes (mode : Mode) (contents : Bool) (os : List Open) (x : List ℕ) (at : ℕ) (old : List Breach) (ps : List Open) (y : List ℕ)
-    (then : ℕ) (new : List Breach) : Type 0 where
+    (then : ℕ) (new : List Breach) (met : Met) : Type 0 where
   pub onward : Onward mode os x at old ps y then new
-  pub judges : Judges mode contents os x ps y old new
+  pub judges : Judges mode contents os x at ps y then old new met
+
+-- ---- the whole walk
+
+-- the pieces that were passed break no rule, and nothing was told; or something was told, and not without reason
+pub data IsVerdict (mode : Mode) (contents : Bool) (octets : List ℕ) (passed : List Piece) (found : List Breach) : Type 0 where
+  right : found ≡ [] → All (IsKept mode contents) passed → (contents ≡ true → ArePlaced mode [] passed)
+      → IsVerdict mode contents octets passed found
+  wrong : 0 < length found → (AreRight mode contents octets → ⊥) → IsVerdict mode contents octets passed found
+
+-- pieces were passed, and the values around what comes are known; or a rule of headers or of ends is broken
+pub data IsFollowed (mode : Mode) (contents : Bool) (octets : List ℕ) (os : List Open) (es : List Enclosing) (whole : Bool) (x : List ℕ)
+    (at : ℕ) (found : List Breach) : Type 0 where
+  so_far : whole ≡ true → (passed : List Piece) → pieces_left mode [] octets ≡ before_all passed (pieces_left mode os x)
+      → AreAround mode octets es (open_behind [] passed) os x at → IsVerdict mode contents octets passed found
+      → IsFollowed mode contents octets os es whole x at found
+  no_values : whole ≡ false → 0 < length found → (AreRight mode contents octets → ⊥)
+      → IsFollowed mode contents octets os es whole x at found
+
+pub record InWalk (mode : Mode) (contents : Bool) (octets : List ℕ) (os : List Open) (es : List Enclosing) (whole : Bool) (x : List ℕ) (at : ℕ)
+    (found : List Breach) : Type 0 where
+  pub comes : Comes octets os x at
+  pub hold : All (Holds mode octets) found
+  pub count : at + length (to_come os x) ≡ length octets
+  pub followed : IsFollowed mode contents octets os es whole x at found

@@ -4,6 +4,7 @@
 //! it goes on as far as the structure is known.
 #![tactic(auto)]
 
+mod around;
 mod begun;
 mod characters;
 mod judge;

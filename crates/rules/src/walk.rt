@@ -1,16 +1,18 @@
 //! The walk over octets that tells the rules that they break.
-ghost use Rattle.std.specs.Prelude.{◌≡◌, ◌↔◌, ◌+◌, ◌<◌, ◌^◌, ◌++◌, ◌∷◌, [], length};
-ghost use Rattle.std.specs.Prelude.{IsTrue, IfOk, OnOk, IfNone, All, option_map, true};
+ghost use Rattle.std.specs.Prelude.{◌≡◌, ◌↔◌, ◌+◌, ◌<◌, ◌^◌, ◌*◌, ◌++◌, ◌∷◌, [], ℕ, List, length};
+ghost use Rattle.std.specs.Prelude.{IsTrue, IfOk, OnOk, IfNone, All, option_map, reverse, true};
 ghost use Rattle.bcder.specs.declared.mode.Mode.TheVariants.{Ber};
 ghost use Rattle.encodings.specs.Next.{IsDue};
 ghost use Rattle.encodings.specs.Open.{GoesBeyond, HasNoHeader, open_values, to_come};
 ghost use Rattle.rules.specs.Begun.{BeginsValue};
 ghost use Rattle.rules.specs.Broken.{Breaks, Holds, IsInDefinite};
 ghost use Rattle.rules.specs.Comes.{HasNoEnd};
+ghost use Rattle.rules.specs.declared.around.Met.TheVariants.{Lost};
 ghost use Rattle.rules.specs.Means.{AreRight};
-ghost use Rattle.rules.specs.Passes.{EndsBefore, Enters, GoesTo, Looks, Onward, Passes};
+ghost use Rattle.rules.specs.Passes.{EndsBefore, Enters, GoesTo, InWalk, Looks, Onward, Passes};
 ghost use Rattle.rules.specs.Passes.{PassesBroken, PassesValue};
 
+use crate::around::{Enclosing, Met, follow, met_of};
 use crate::begun::{Begun, Front, begin, close};
 use crate::judge::judge;
 use crate::rule::{Breach, Rule};
@@ -24,6 +26,23 @@ use std::alloc::Global;
 struct Place<'a> {
     rest: &'a [u8],
     at: usize,
+}
+
+/// Where a step of the walk got to, and what it passed.
+#[derive(Clone, Copy)]
+struct Stepped<'a> {
+    rest: &'a [u8],
+    at: usize,
+    met: Met,
+}
+
+/// Where the walk got to, and whether it lost no value: whether no rule of headers or ends was
+/// broken.
+#[derive(Clone, Copy)]
+struct Standing<'a> {
+    rest: &'a [u8],
+    at: usize,
+    whole: bool,
 }
 
 /// Adds a breach.
@@ -311,17 +330,41 @@ fn pass_due<'a>(
     rest: &'a [u8],
     at: usize,
     found: &mut Vec<Breach>,
-) -> Result<Place<'a>, NoMemory>
+) -> Result<Stepped<'a>, NoMemory>
     requires due { IsDue mode (open_values opened.old.items) rest.now }
     requires room { at + length (to_come (open_values opened.old.items) rest.now) < 2 ^ 64 }
     ensures { IfOk result (λ p. Passes mode contents
         (open_values opened.old.items) rest.now at found.old.items
-        (open_values opened.new.items) p.rest.now p.at found.new.items) }
+        (open_values opened.new.items) p.rest.now p.at found.new.items p.met) }
 {
     match begin(mode, rest) {
-        Front::Value(begun) => pass_value(mode, contents, opened, rest, &begun, at, found),
-        Front::Beyond => pass_beyond(mode, opened, rest, at, found),
-        Front::Nothing => pass_broken(mode, contents, opened, rest, at, found),
+        Front::Value(begun) => {
+            let met = met_of(&begun);
+            match pass_value(mode, contents, opened, rest, &begun, at, found) {
+                Ok(place) => Ok(Stepped {
+                    rest: place.rest,
+                    at: place.at,
+                    met,
+                }),
+                Err(NoMemory) => Err(NoMemory),
+            }
+        }
+        Front::Beyond => match pass_beyond(mode, opened, rest, at, found) {
+            Ok(place) => Ok(Stepped {
+                rest: place.rest,
+                at: place.at,
+                met: Met::Lost,
+            }),
+            Err(NoMemory) => Err(NoMemory),
+        },
+        Front::Nothing => match pass_broken(mode, contents, opened, rest, at, found) {
+            Ok(place) => Ok(Stepped {
+                rest: place.rest,
+                at: place.at,
+                met: Met::Lost,
+            }),
+            Err(NoMemory) => Err(NoMemory),
+        },
     }
 }
 
@@ -333,12 +376,12 @@ fn pass_next<'a>(
     rest: &'a [u8],
     at: usize,
     found: &mut Vec<Breach>,
-) -> Result<Place<'a>, NoMemory>
+) -> Result<Stepped<'a>, NoMemory>
     requires some { 0 < opened.old.len + length rest.now }
     requires room { at + length (to_come (open_values opened.old.items) rest.now) < 2 ^ 64 }
     ensures { IfOk result (λ p. Passes mode contents
         (open_values opened.old.items) rest.now at found.old.items
-        (open_values opened.new.items) p.rest.now p.at found.new.items) }
+        (open_values opened.new.items) p.rest.now p.at found.new.items p.met) }
 {
     let Some(&innermost) = opened.last() else {
         return pass_due(mode, contents, opened, rest, at, found);
@@ -346,17 +389,78 @@ fn pass_next<'a>(
     match close(mode, innermost, rest) {
         Some((size, behind)) => {
             let _ended = opened.pop();
-            Ok(Place {
+            Ok(Stepped {
                 rest: behind,
                 at: at + size,
+                met: Met::End,
             })
         }
         None => pass_due(mode, contents, opened, rest, at, found),
     }
 }
 
+/// Returns whether a value was lost.
+fn is_lost(met: Met) -> bool
+    ensures { IsTrue result ↔ (met ≡ Lost) }
+{
+    match met {
+        Met::Lost => true,
+        _ => false,
+    }
+}
+
+/// Goes one step on, and follows it if no value was lost.
+fn go_on<'a>(
+    mode: Mode,
+    contents: bool,
+    opened: &mut Vec<Option<&'a [u8]>>,
+    around: &mut Vec<Enclosing<'a>>,
+    place: Standing<'a>,
+    found: &mut Vec<Breach>,
+) -> Result<Standing<'a>, NoMemory>
+    requires some { 0 < opened.old.len + length place.rest.now }
+    requires room { place.at
+        + length (to_come (open_values opened.old.items) place.rest.now) < 2 ^ 64 }
+    ensures smaller { IfOk result (λ p. length (to_come (open_values opened.new.items) p.rest.now) * 2
+        + length (open_values opened.new.items)
+        < length (to_come (open_values opened.old.items) place.entry.rest.now) * 2
+        + length (open_values opened.old.items)) }
+    ensures walk { IfOk result (λ p. (octets : List ℕ)
+        → InWalk mode contents octets (open_values opened.old.items) (reverse around.old.items)
+        place.entry.whole place.entry.rest.now place.entry.at found.old.items
+        → InWalk mode contents octets (open_values opened.new.items) (reverse around.new.items)
+        p.whole p.rest.now p.at found.new.items) }
+{
+    let next = match pass_next(mode, contents, opened, place.rest, place.at, found) {
+        Ok(next) => next,
+        Err(NoMemory) => return Err(NoMemory),
+    };
+    if !place.whole || is_lost(next.met) {
+        return Ok(Standing {
+            rest: next.rest,
+            at: next.at,
+            whole: false,
+        });
+    }
+    let Ok(()) = follow(
+        mode, contents, around, place.rest, next.met, next.rest, next.at, found,
+    ) else {
+        return Err(NoMemory);
+    };
+    Ok(Standing {
+        rest: next.rest,
+        at: next.at,
+        whole: true,
+    })
+}
+
 /// Returns what octets break that are to be encodings of values in the mode, one after the other,
-/// and, if `contents`, what their contents octets break. There is nothing exactly if they are.
+/// and, if `contents`, what their contents octets break, and the order of the values inside each
+/// SET. There is nothing exactly if they are.
+///
+/// Octets don't tell a SET from a SET OF: its values have to be in the order of their tags, and those
+/// with the same tag in the order of their octets. This order, as [`encodings::sets`] makes it, is
+/// looked at up to the first octet that breaks a rule of headers.
 ///
 /// ```text
 /// breaches(alloc, Mode::Der, true, &[0x30, 0x03, 0x01, 0x01, 0x01])   // at 4: BooleanValue
@@ -372,19 +476,14 @@ pub fn breaches(
 {
     let mut found = Vec::new(alloc);
     let mut opened: Vec<Option<&[u8]>> = Vec::new(alloc);
-    let mut place = Place {
+    let mut around = Vec::new(alloc);
+    let mut place = Standing {
         rest: octets,
         at: 0,
+        whole: true,
     };
     while !opened.is_empty() || !place.rest.is_empty() {
-        match pass_next(
-            mode,
-            contents,
-            &mut opened,
-            place.rest,
-            place.at,
-            &mut found,
-        ) {
+        match go_on(mode, contents, &mut opened, &mut around, place, &mut found) {
             Ok(next) => place = next,
             Err(NoMemory) => return Err(NoMemory),
         }
