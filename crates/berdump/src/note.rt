@@ -4,6 +4,7 @@ mod fault;
 mod hexadecimal;
 mod identifier;
 mod integer;
+mod large;
 mod octets;
 mod text;
 mod time;

@@ -1,9 +1,12 @@
 //! Object identifiers.
-use crate::note::{Manner, add_fault, fault, hexadecimal};
+use crate::note::{Manner, add_fault, fault, hexadecimal, large};
 use bcder::NoMemory;
 use encodings::identifier::store_text;
 use encodings::status::DONE;
 use names::name_of;
+
+/// The number of octets of the longest identifier whose largest components are shown in decimal.
+const LONGEST: usize = 1000;
 
 /// Returns the octets of an identifier's number, such as `2.5.4.3`. There are none if a component
 /// has more than 128 bits.
@@ -27,6 +30,16 @@ fn add_number(text: &mut String, number: &str) -> Result<(), NoMemory> {
     Ok(())
 }
 
+/// Appends the number of an identifier with a component of more than 128 bits, or its octets if
+/// they are so many that they would take long.
+fn add_large(manner: Manner, text: &mut String, octets: &[u8]) -> Result<(), NoMemory> {
+    if octets.len() > LONGEST {
+        return hexadecimal::add(manner, text, octets);
+    }
+    write!(text, " :")?;
+    large::add_components(manner.alloc, text, octets)
+}
+
 /// Appends what contents octets of an OBJECT IDENTIFIER mean.
 pub(crate) fn add(manner: Manner, text: &mut String, octets: &[u8]) -> Result<(), NoMemory> {
     let fault = fault::identifier(octets);
@@ -37,6 +50,6 @@ pub(crate) fn add(manner: Manner, text: &mut String, octets: &[u8]) -> Result<()
     let number = number_of(manner, octets)?;
     match str::from_utf8(&number) {
         Ok(number) if !number.is_empty() => add_number(text, number),
-        _ => hexadecimal::add(manner, text, octets),
+        _ => add_large(manner, text, octets),
     }
 }
