@@ -1,6 +1,6 @@
 //! The line for a violation.
-use crate::tell::Place;
 use bcder::Mode;
+use cli::tell::Place;
 use rules::Breach;
 use std::fmt;
 
@@ -47,7 +47,7 @@ impl fmt::Display for Line<'_> {
         let here = self.octets.split_at(at.min(self.octets.len())).1;
         write!(
             f,
-            "{}octet {at}: {} (X.690, {}): {} stands here, {} is wanted\n",
+            "{}octet {at}: {} (X.690, {}): {} stands here, {} is wanted",
             self.place,
             rule.title(),
             rule.clause(self.mode),

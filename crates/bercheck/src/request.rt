@@ -1,13 +1,9 @@
 //! Reads the arguments.
-ghost use Rattle.std.specs.Prelude.{◌<◌, OnOk, length};
-
 use bcder::Mode;
-use cli::arguments::{Argument, Arguments};
+use cli::arguments::{Argument, Arguments, Misuse};
 use cli::files::STDIN;
 use cli::form::Form;
-use cli::shown::Shown;
 use std::alloc::Global;
-use std::fmt;
 
 /// How files are to be checked.
 #[derive(Clone, Copy, Debug)]
@@ -35,42 +31,6 @@ pub(crate) enum Asked<'a> {
     Files(Request, Vec<&'a str>),
 }
 
-/// Why arguments ask for nothing.
-#[derive(Clone, Copy)]
-pub(crate) enum Misuse<'a> {
-    /// There is no such option.
-    Option(&'a str),
-
-    /// The option for a form needs one behind it.
-    Form,
-
-    /// Memory ran out.
-    NoMemory,
-}
-
-impl fmt::Display for Misuse<'_> {
-    fn fmt<W: fmt::Write>(&self, f: &mut fmt::Formatter<W>) -> fmt::Result {
-        match self {
-            Misuse::Option(word) => write!(f, "{}: no such option", Shown(word)),
-            Misuse::Form => write!(f, "--input: hex, base64, pem or der has to follow"),
-            Misuse::NoMemory => write!(f, "out of memory"),
-        }
-    }
-}
-
-/// Returns the form behind an option.
-fn form<'a>(args: &mut Arguments<'a>) -> Result<Form, Misuse<'a>>
-    ensures { OnOk result (length args.new.words.now < length args.old.words.now) }
-{
-    let Some(word) = args.value() else {
-        return Err(Misuse::Form);
-    };
-    match Form::named(word) {
-        Some(form) => Ok(form),
-        None => Err(Misuse::Form),
-    }
-}
-
 /// Returns what the arguments ask for, or why they ask for nothing.
 pub(crate) fn read<'a>(alloc: Global, words: &'a [String]) -> Result<Asked<'a>, Misuse<'a>> {
     let mut args = Arguments::new(words);
@@ -94,10 +54,10 @@ pub(crate) fn read<'a>(alloc: Global, words: &'a [String]) -> Result<Asked<'a>, 
             "--der" => mode = Mode::Der,
             "--contents" => contents = Some(true),
             "--headers" => contents = Some(false),
-            "--input" => input = Some(form(&mut args)?),
+            "--input" => input = Some(args.form(option)?),
             "-h" | "--help" => return Ok(Asked::Help),
             "--version" => return Ok(Asked::Version),
-            _ => return Err(Misuse::Option(option)),
+            _ => return Err(Misuse::Word(option, "no such option")),
         }
     }
     if files.is_empty() && files.push(STDIN).is_err() {

@@ -1,24 +1,69 @@
 //! Checks files: their octets, or the blocks of a text (RFC 7468).
-ghost use Rattle.std.specs.Prelude.{◌≡◌, ◌≢◌, [], IsTrue, OnOk, IfOk, IfErr, IfSome};
-ghost use Rattle.std.specs.Io.KnownBytes.{Keeps};
+ghost use Rattle.std.specs.Prelude.{◌≡◌, ◌≢◌, [], IfOk, IfErr, IfSome, IfNone};
+ghost use Rattle.cli.specs.Spelling.{IsMisspelled};
+ghost use Rattle.cli.specs.Told.{Tells};
+ghost use Rattle.cli.specs.declared.status.Status.TheVariants.{Done, Refused};
 ghost use Rattle.rules.specs.Means.{AreRight};
-ghost use Rattle.bercheck.specs.declared.status.Status.TheVariants.{Right, Broken};
-ghost use Rattle.bercheck.specs.Runs.{AreFilesRight, IsFileRight, IsInputRight, IsSpelled};
-ghost use Rattle.bercheck.specs.Runs.{MayHaveBlocks};
+ghost use Rattle.bercheck.specs.Runs.{AreFilesRight, IsBlockBroken, IsBlockRight};
+ghost use Rattle.bercheck.specs.Runs.{AreBlocksRight, HasBrokenBlock, HasBrokenFile};
+ghost use Rattle.bercheck.specs.Runs.{IsFileBroken, IsFileRight, IsInputBroken, IsInputRight};
+ghost use Rattle.bercheck.specs.Runs.{IsItselfIn, IsTextBroken, IsTextRight, MisspellsIn};
+ghost use Rattle.bercheck.specs.Runs.{SpellsInForm};
+ghost use Rattle.bercheck.specs.Tells.{Goes};
 
+use crate::PROGRAM;
 use crate::line::Line;
 use crate::request::Request;
-use crate::status::Status;
-use crate::tell::{Place, tell, tell_header, tell_no_memory, tell_unended, tell_unwritten};
+use bcder::encode::write_octets;
 use cli::files::Input;
-use cli::form::{Form, Misspelled, from_base64, from_hex};
-use cli::pem::{Block, header_in, next_block};
+use cli::form::{Form, Misspelled};
+use cli::pem::{Block, BlockError, has_blocks, next_block, octets_in};
+use cli::shown::line_of;
+use cli::spelled::spelled_as;
+use cli::status::Status;
+use cli::tell::{Place, tell, tell_no_memory, tell_unwritten};
 use rules::{Breach, breaches};
-use std::alloc::Global;
-use std::io;
+use std::alloc::{AllocError, Global};
+use std::{fmt, io};
+
+/// Says why something isn't checked, and returns the status.
+fn refuse<E: io::Write, D: fmt::Display + Drop>(
+    alloc: Global,
+    place: Place<'_>,
+    reason: D,
+    err: &mut E,
+) -> Status
+    ensures told { Tells (E.contents err.old) (E.contents err.new) }
+    ensures refused { result ≡ Refused }
+{
+    tell(alloc, PROGRAM, place, reason, err);
+    Status::Refused
+}
+
+/// Writes the line for a breach.
+fn write_breach<W: io::Write, E: io::Write>(
+    alloc: Global,
+    line: Line<'_>,
+    out: &mut W,
+    err: &mut E,
+) -> Status
+    ensures goes { Goes (W.contents out.old) (W.contents out.new)
+        (E.contents err.old) (E.contents err.new) result }
+    ensures told { result ≢ Done }
+{
+    let text = match line_of(alloc, line) {
+        Ok(text) => text,
+        Err(AllocError) => return tell_no_memory(PROGRAM, err),
+    };
+    match write_octets(out, text.as_bytes()) {
+        Ok(()) => Status::Refused,
+        Err(_) => tell_unwritten(PROGRAM, err),
+    }
+}
 
 /// Writes a line for each breach.
-fn write_lines<W: io::Write, E: io::Write>(
+fn write_breaches<W: io::Write, E: io::Write>(
+    alloc: Global,
     request: Request,
     place: Place<'_>,
     octets: &[u8],
@@ -26,27 +71,27 @@ fn write_lines<W: io::Write, E: io::Write>(
     out: &mut W,
     err: &mut E,
 ) -> Status
-    ensures right { result ≡ Right → found.now ≡ [] }
-    ensures broken { result ≡ Broken → found.now ≢ [] }
-    ensures silent { found.now ≡ [] → (result ≡ Right)
-        × Keeps (W.contents out.old) (W.contents out.new)
-        × Keeps (E.contents err.old) (E.contents err.new) }
+    ensures goes { Goes (W.contents out.old) (W.contents out.new)
+        (E.contents err.old) (E.contents err.new) result }
+    ensures right { result ≡ Done → found.now ≡ [] }
+    ensures broken { result ≡ Refused → found.now ≢ [] }
 {
-    if found.is_empty() {
-        return Status::Right;
-    }
-    for breach in found {
+    let mut status = Status::Done;
+    let mut rest = found;
+    while let [breach, behind @ ..] = rest {
+        rest = behind;
         let line = Line {
             place,
             mode: request.mode,
             octets,
             breach: *breach,
         };
-        if write!(out, "{line}").is_err() {
-            return tell_unwritten(err);
+        status = write_breach(alloc, line, out, err);
+        if status == Status::Failed {
+            return Status::Failed;
         }
     }
-    Status::Broken
+    status
 }
 
 /// Checks octets, and writes what they break on `out`.
@@ -58,38 +103,14 @@ fn run_octets<W: io::Write, E: io::Write>(
     out: &mut W,
     err: &mut E,
 ) -> Status
-    ensures right { result ≡ Right → AreRight request.mode request.contents octets.now }
-    ensures broken { result ≡ Broken → AreRight request.mode request.contents octets.now → ⊥ }
-    ensures silent { result ≡ Right → Keeps (W.contents out.old) (W.contents out.new)
-        × Keeps (E.contents err.old) (E.contents err.new) }
+    ensures goes { Goes (W.contents out.old) (W.contents out.new)
+        (E.contents err.old) (E.contents err.new) result }
+    ensures right { result ≡ Done → AreRight request.mode request.contents octets.now }
+    ensures broken { result ≡ Refused → AreRight request.mode request.contents octets.now → ⊥ }
 {
     match breaches(alloc, request.mode, request.contents, octets) {
-        Ok(found) => write_lines(request, place, octets, &found, out, err),
-        Err(_) => tell_no_memory(err),
-    }
-}
-
-/// Returns the octets of a block, or says on `err` why it has none, and returns the status.
-fn octets_in<E: io::Write>(
-    alloc: Global,
-    place: Place<'_>,
-    block: Block<'_>,
-    err: &mut E,
-) -> Result<Vec<u8>, Status>
-    ensures ok { OnOk result (Keeps (E.contents err.old) (E.contents err.new)) }
-    ensures err { IfErr result (λ status. status ≢ Right) }
-{
-    let body = match block.body {
-        Ok(body) => body,
-        Err(why) => return Err(tell_unended(err, place, why)),
-    };
-    if let Some(name) = header_in(body) {
-        return Err(tell_header(err, place, name));
-    }
-    match from_base64(alloc, body) {
-        Ok(octets) => Ok(octets),
-        Err(Misspelled::NoMemory) => Err(tell_no_memory(err)),
-        Err(Misspelled::Form) => Err(tell(err, place, "it isn't in base 64")),
+        Ok(found) => write_breaches(alloc, request, place, octets, &found, out, err),
+        Err(_) => tell_no_memory(PROGRAM, err),
     }
 }
 
@@ -102,12 +123,15 @@ fn run_block<W: io::Write, E: io::Write>(
     out: &mut W,
     err: &mut E,
 ) -> Status
-    ensures silent { result ≡ Right → Keeps (W.contents out.old) (W.contents out.new)
-        × Keeps (E.contents err.old) (E.contents err.new) }
+    ensures goes { Goes (W.contents out.old) (W.contents out.new)
+        (E.contents err.old) (E.contents err.new) result }
+    ensures right { result ≡ Done → IsBlockRight request block.entry }
+    ensures broken { result ≡ Refused → IsBlockBroken request block.entry }
 {
-    match octets_in(alloc, place, block, err) {
+    match octets_in(alloc, block) {
         Ok(octets) => run_octets(alloc, request, place, &octets, out, err),
-        Err(status) => status,
+        Err(BlockError::NoMemory) => tell_no_memory(PROGRAM, err),
+        Err(error) => refuse(alloc, place, error, err),
     }
 }
 
@@ -120,17 +144,19 @@ fn run_blocks<W: io::Write, E: io::Write>(
     out: &mut W,
     err: &mut E,
 ) -> Status
-    ensures silent { result ≡ Right → Keeps (W.contents out.old) (W.contents out.new)
-        × Keeps (E.contents err.old) (E.contents err.new) }
+    ensures goes { Goes (W.contents out.old) (W.contents out.new)
+        (E.contents err.old) (E.contents err.new) result }
+    ensures right { result ≡ Done → AreBlocksRight request octets.now }
+    ensures broken { result ≡ Refused → HasBrokenBlock request octets.now }
 {
     let mut rest = octets;
     let mut number = 0usize;
-    let mut status = Status::Right;
+    let mut status = Status::Done;
     while let Some(block) = next_block(rest) {
         rest = block.rest;
         number = number.saturating_add(1);
         let place = Place {
-            file,
+            file: Some(file),
             block: Some((number, block.label)),
         };
         let found = run_block(alloc, request, place, block, out, err);
@@ -139,34 +165,43 @@ fn run_blocks<W: io::Write, E: io::Write>(
         }
         status = status.and(found);
     }
-    if number == 0 {
-        return tell(err, Place { file, block: None }, "there is no block");
-    }
     status
 }
 
-/// Returns whether octets are to be read as blocks.
-fn has_blocks(form: Option<Form>, octets: &[u8]) -> bool
-    ensures { IsTrue result → MayHaveBlocks form octets.now }
+/// Checks a text that is to be read as blocks.
+fn run_text<W: io::Write, E: io::Write>(
+    alloc: Global,
+    request: Request,
+    file: &str,
+    octets: &[u8],
+    out: &mut W,
+    err: &mut E,
+) -> Status
+    ensures goes { Goes (W.contents out.old) (W.contents out.new)
+        (E.contents err.old) (E.contents err.new) result }
+    ensures right { result ≡ Done → IsTextRight request octets.now }
+    ensures broken { result ≡ Refused → IsTextBroken request octets.now }
 {
-    match form {
-        Some(form) => form == Form::Pem,
-        None => next_block(octets).is_some(),
+    if next_block(octets).is_none() {
+        let place = Place {
+            file: Some(file),
+            block: None,
+        };
+        return refuse(alloc, place, "there is no block", err);
     }
+    run_blocks(alloc, request, file, octets, out, err)
 }
 
-/// Returns the octets that a text spells in the form that is asked for, or `None` if none is.
-fn spelled_in(
-    alloc: Global,
-    form: Option<Form>,
-    octets: &[u8],
-) -> Result<Option<Vec<u8>>, Misspelled>
-    ensures { IfOk result (λ spelled. IfSome spelled (λ octets. IsSpelled form)) }
+/// Returns the octets that a text spells in the form that is asked for, or `None` if it is to be
+/// read as it is.
+fn spelled_in(alloc: Global, form: Option<Form>, text: &[u8]) -> Result<Option<Vec<u8>>, Misspelled>
+    ensures spells { IfOk result (λ o. IfSome o (λ v. SpellsInForm form text.now v.items)) }
+    ensures itself { IfOk result (λ o. IfNone o (IsItselfIn form)) }
+    ensures misspelled { IfErr result (IsMisspelled (MisspellsIn form text.now)) }
 {
     match form {
-        Some(Form::Hex) => Ok(Some(from_hex(alloc, octets)?)),
-        Some(Form::Base64) => Ok(Some(from_base64(alloc, octets)?)),
-        _ => Ok(None),
+        Some(form) => spelled_as(alloc, form, text),
+        None => Ok(None),
     }
 }
 
@@ -179,19 +214,26 @@ fn run_read<W: io::Write, E: io::Write>(
     out: &mut W,
     err: &mut E,
 ) -> Status
-    ensures right { result ≡ Right → IsInputRight request octets.now }
-    ensures silent { result ≡ Right → Keeps (W.contents out.old) (W.contents out.new)
-        × Keeps (E.contents err.old) (E.contents err.new) }
+    ensures goes { Goes (W.contents out.old) (W.contents out.new)
+        (E.contents err.old) (E.contents err.new) result }
+    ensures right { result ≡ Done → IsInputRight request octets.now }
+    ensures broken { result ≡ Refused → IsInputBroken request octets.now }
 {
     if has_blocks(request.form, octets) {
-        return run_blocks(alloc, request, file, octets, out, err);
+        return run_text(alloc, request, file, octets, out, err);
     }
-    let place = Place { file, block: None };
+    let place = Place {
+        file: Some(file),
+        block: None,
+    };
     match spelled_in(alloc, request.form, octets) {
         Ok(Some(spelled)) => run_octets(alloc, request, place, &spelled, out, err),
         Ok(None) => run_octets(alloc, request, place, octets, out, err),
-        Err(Misspelled::NoMemory) => tell_no_memory(err),
-        Err(Misspelled::Form) => tell(err, place, "it isn't in the form that is asked for"),
+        Err(Misspelled::NoMemory) => tell_no_memory(PROGRAM, err),
+        Err(Misspelled::Form) => {
+            let why = "it isn't in the form that is asked for";
+            refuse(alloc, place, why, err)
+        }
     }
 }
 
@@ -203,35 +245,39 @@ fn run_input<W: io::Write, E: io::Write>(
     out: &mut W,
     err: &mut E,
 ) -> Status
-    ensures right { result ≡ Right → IsFileRight request input.now }
-    ensures silent { result ≡ Right → Keeps (W.contents out.old) (W.contents out.new)
-        × Keeps (E.contents err.old) (E.contents err.new) }
+    ensures goes { Goes (W.contents out.old) (W.contents out.new)
+        (E.contents err.old) (E.contents err.new) result }
+    ensures right { result ≡ Done → IsFileRight request input.now }
+    ensures broken { result ≡ Refused → IsFileBroken request input.now }
 {
     let file = input.title();
     match &input.octets {
         Ok(octets) => run_read(alloc, request, file, octets, out, err),
         Err(error) => {
-            let place = Place { file, block: None };
-            let _ = write!(err, "bercheck: {place}{error}\n");
+            let place = Place {
+                file: Some(file),
+                block: None,
+            };
+            tell(alloc, PROGRAM, place, error, err);
             Status::Unread
         }
     }
 }
 
-/// Checks files one after the other, and returns how that ends. A line for each violation is
-/// written on `out`.
-pub fn run<W: io::Write, E: io::Write>(
+/// Checks files one after the other.
+fn run_inputs<W: io::Write, E: io::Write>(
     alloc: Global,
     request: Request,
     inputs: &[Input<'_>],
     out: &mut W,
     err: &mut E,
 ) -> Status
-    ensures right { result ≡ Right → AreFilesRight request inputs.now }
-    ensures silent { result ≡ Right → Keeps (W.contents out.old) (W.contents out.new)
-        × Keeps (E.contents err.old) (E.contents err.new) }
+    ensures goes { Goes (W.contents out.old) (W.contents out.new)
+        (E.contents err.old) (E.contents err.new) result }
+    ensures right { result ≡ Done → AreFilesRight request inputs.now }
+    ensures broken { result ≡ Refused → HasBrokenFile request inputs.now }
 {
-    let mut status = Status::Right;
+    let mut status = Status::Done;
     let mut rest = inputs;
     while let [input, behind @ ..] = rest {
         rest = behind;
@@ -241,8 +287,26 @@ pub fn run<W: io::Write, E: io::Write>(
         }
         status = status.and(found);
     }
-    if out.flush().is_err() {
-        return tell_unwritten(err);
-    }
     status
+}
+
+/// Checks files one after the other, and returns how that ends. A line for each violation is
+/// written on `out`, and why something isn't checked on `err`.
+pub fn run<W: io::Write, E: io::Write>(
+    alloc: Global,
+    request: Request,
+    inputs: &[Input<'_>],
+    out: &mut W,
+    err: &mut E,
+) -> Status
+    ensures goes { Goes (W.contents out.old) (W.contents out.new)
+        (E.contents err.old) (E.contents err.new) result }
+    ensures right { result ≡ Done → AreFilesRight request inputs.now }
+    ensures broken { result ≡ Refused → HasBrokenFile request inputs.now }
+{
+    let status = run_inputs(alloc, request, inputs, out, err);
+    match out.flush() {
+        Ok(()) => status,
+        Err(_) => tell_unwritten(PROGRAM, err),
+    }
 }
