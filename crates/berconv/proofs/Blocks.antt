@@ -1,11 +1,10 @@
 -- Blocks of a text, one after the other.
-use Rattle.std.proofs.Common.{ℕ, List, [], ◌∷◌, ◌++◌, refl, subst, inl, inr}
+use Rattle.std.proofs.Common.{ℕ, List, [], ◌∷◌, ◌++◌, refl, subst, inr}
 use Rattle.cli.specs.declared.pem.Block.{Block}
-use Rattle.cli.specs.Pem.{IsNext, HasNoBlock}
+use Rattle.cli.specs.Pem.{AreBlocks, HasNoBlock, HasOctets, IsNext, StandBefore}
 use Rattle.berconv.specs.declared.refusal.Refusal.{Refusal}
 use Rattle.berconv.specs.declared.request.Request.{Request}
-use Rattle.berconv.specs.Carried.{AreBlocks, IsBlockOf, StandBefore}
-use Rattle.berconv.specs.Ends.{AppendsConversion, AppendsConversions, IsRefusedIn, IsUnconverted}
+use Rattle.berconv.specs.Ends.{AppendsConversion, AppendsConversions, IsRefusedBlock, IsUnconverted}
 
 -- the blocks of a text up to x were converted
 pub record Converted (r : Request) (text x : List ℕ) (old new : List ℕ) : Type 0 where
@@ -16,7 +15,7 @@ pub record Converted (r : Request) (text x : List ℕ) (old new : List ℕ) : Ty
 pub none_converted : (r : Request) (text old : List ℕ) → Converted r text text old old
 none_converted r text old = record { parts = []; stand = refl; appends = refl }
 
-stand_more : (text x : List ℕ) (vs : List (List ℕ)) (b : Block) (v : List ℕ) → StandBefore x text vs → IsNext x b → IsBlockOf b v
+stand_more : (text x : List ℕ) (vs : List (List ℕ)) (b : Block) (v : List ℕ) → StandBefore x text vs → IsNext x b → HasOctets b v
     → StandBefore b.rest.now text (vs ++ v ∷ [])
 stand_more text x [] b v h s k = (b, subst (λ z. IsNext z b) h s, k, refl)
 stand_more text x (u ∷ vs) b v h s k = (h.0, h.1, h.2, stand_more h.0.rest.now x vs b v h.3 s k)
@@ -32,17 +31,16 @@ module _ (r : Request) where
   appends_more (u ∷ vs) v old mid new h a = (h.0, h.1, appends_more vs v h.0 mid new h.2 a)
 
   pub one_converted : (text x old mid new : List ℕ) (b : Block) → Converted r text x old mid → IsNext x b
-      → (v : List ℕ) × IsBlockOf b v × AppendsConversion r v mid new → Converted r text b.rest.now old new
+      → (v : List ℕ) × HasOctets b v × AppendsConversion r v mid new → Converted r text b.rest.now old new
   one_converted text x old mid new b c s (v, k, a) = record {
     parts = c.parts ++ v ∷ [];
     stand = stand_more text x c.parts b v c.stand s k;
     appends = appends_more c.parts v old mid new c.appends a;
   }
 
-  pub one_refused : (text x old mid : List ℕ) (b : Block) (e : Refusal) → Converted r text x old mid → IsNext x b → IsRefusedIn r (IsBlockOf b) e
+  pub one_refused : (text x old mid : List ℕ) (b : Block) (e : Refusal) → Converted r text x old mid → IsNext x b → IsRefusedBlock r b e
       → IsUnconverted r text e
-  one_refused text x old mid b e c s (inl u) = inl u
-  one_refused text x old mid b e c s (inr (v, k, h)) = inr (c.parts, v, (b.rest.now, stand_more text x c.parts b v c.stand s k), h)
+  one_refused text x old mid b e c s h = inr (c.parts, x, b, c.stand, s, h)
 
   pub all_converted : (text x old new : List ℕ) → Converted r text x old new → HasNoBlock x
       → (parts : List (List ℕ)) × AreBlocks text parts × AppendsConversions r parts old new

@@ -7,7 +7,13 @@ use Rattle.bcder.specs.declared.mode.Mode.TheVariants.{Ber, Cer, Der}
 use Rattle.bcder.specs.calls.Captured.{AreWhole}
 use Rattle.bcder.specs.calls.Target.{AppendsFront}
 use Rattle.cli.specs.declared.files.Input.{Input}
+use Rattle.cli.specs.declared.pem.Block.{Block}
+use Rattle.cli.specs.declared.pem.BlockError.{BlockError}
+use Rattle.cli.specs.declared.status.Status.{Status}
+use Rattle.cli.specs.declared.status.Status.TheVariants as status
 use Rattle.cli.specs.Armor.{block_of}
+use Rattle.cli.specs.Pem.{AreBlocks, HasBlocks, HasNoBlock, HasNoBlocks, HasNoOctets, HasOctets, IsNext, StandBefore}
+use Rattle.cli.specs.Spelled.{IsReadAs, Misspells}
 use Rattle.encodings.specs.declared.checked.Checked.{Checked}
 use Rattle.encodings.specs.Conversion.{IsConversion}
 use Rattle.encodings.specs.Sets.{IsSorting}
@@ -15,17 +21,7 @@ use Rattle.encodings.specs.Values.{AreNoValues, StopsAfter}
 use Rattle.berconv.specs.declared.refusal.Refusal.{Refusal}
 use Rattle.berconv.specs.declared.refusal.Refusal.TheVariants.{NoValues, NotConverted, NoMemory, NoBlock, Unended, OtherLabel, Headers, NotBase64, Misspelled}
 use Rattle.berconv.specs.declared.request.Request.{Request}
-use Rattle.berconv.specs.declared.status.Status.{Status}
-use Rattle.berconv.specs.declared.status.Status.TheVariants as status
-use Rattle.berconv.specs.Carried.{AreBlocks, HasBlocks, MayHaveBlocks, IsWhole}
-use Rattle.berconv.specs.Refusals.{RefusedWith, status_of}
-
--- the exit status
-abbrev pub code_of : Status → ℕ
-code_of status.Written = 0
-code_of status.Refused = 1
-code_of status.Unread = 2
-code_of status.Failed = 1
+use Rattle.berconv.specs.Refusals.{RefusedWith, refusal_of, status_of}
 
 -- ---- what is written
 
@@ -68,33 +64,28 @@ IsRefused from to octets Headers = ⊥
 IsRefused from to octets NotBase64 = ⊥
 IsRefused from to octets Misspelled = ⊥
 
--- or no octets were found in the input
-abbrev pub IsUnreadable : Refusal → Type 0
-IsUnreadable (NoValues at why) = ⊥
-IsUnreadable NotConverted = ⊥
-IsUnreadable NoMemory = ⊤
-IsUnreadable NoBlock = ⊤
-IsUnreadable Unended = ⊤
-IsUnreadable OtherLabel = ⊤
-IsUnreadable Headers = ⊤
-IsUnreadable NotBase64 = ⊤
-IsUnreadable Misspelled = ⊤
+-- a block isn't converted: it carries no octets, or they are refused
+abbrev pub IsRefusedBlock : Request → Block → Refusal → Type 0
+IsRefusedBlock r b e =
+    ((x : BlockError) × HasNoOctets b x × (e ≡ refusal_of x)) ⊎ ((v : List ℕ) × HasOctets b v × IsRefused r.from r.to v e)
 
--- no octets were found, or those that P says, and they are refused
-abbrev pub IsRefusedIn : Request → (List ℕ → Type 0) → Refusal → Type 0
-IsRefusedIn r P e = IsUnreadable e ⊎ ((v : List ℕ) × P v × IsRefused r.from r.to v e)
-
--- the same of a text with blocks, one of which is refused
+-- a text with blocks isn't: it has none, or one isn't, behind others
 abbrev pub IsUnconverted : Request → List ℕ → Refusal → Type 0
 IsUnconverted r text e =
-    IsUnreadable e
-    ⊎ ((vs : List (List ℕ)) × (v : List ℕ) × HasBlocks text (vs ++ v ∷ []) × IsRefused r.from r.to v e)
+    (HasNoBlock text × (e ≡ NoBlock))
+    ⊎ ((vs : List (List ℕ)) × (rest : List ℕ) × (b : Block) × StandBefore rest text vs × IsNext rest b × IsRefusedBlock r b e)
+
+-- a text without blocks isn't: it isn't in the form that is asked for, or what it is read as is refused; or memory ran out
+abbrev pub IsRefusedAlone : Request → List ℕ → Refusal → Type 0
+IsRefusedAlone r text e =
+    (Misspells r.form text × (e ≡ Misspelled)) ⊎ (e ≡ NoMemory)
+    ⊎ ((v : List ℕ) × IsReadAs r.from r.form text v × IsRefused r.from r.to v e)
 
 -- ---- runs
 
 -- octets were written, or a prefix of them before the target failed, which was told
 pub data Puts (w : List ℕ) (out_old out_new err_old err_new : Option (List ℕ)) (s : Status) : Type 0 where
-  all : s ≡ status.Written → Appends out_old out_new w → Keeps err_old err_new → Puts w out_old out_new err_old err_new s
+  all : s ≡ status.Done → Appends out_old out_new w → Keeps err_old err_new → Puts w out_old out_new err_old err_new s
   in_part : s ≡ status.Failed → AppendsFront out_old out_new w → AppendsFront err_old err_new (codes "berconv: the output can't be written\n")
       → Puts w out_old out_new err_old err_new s
 
@@ -108,13 +99,13 @@ pub record Refuses (r : Refusal) (out_old out_new err_old err_new : Option (List
 -- the octets of the blocks were converted, or those that the input is or spells, and what is written of them was put; or some are
 -- refused, and nothing was
 pub data Ends (r : Request) (input : List ℕ) (out_old out_new err_old err_new : Option (List ℕ)) (s : Status) : Type 0 where
-  in_blocks : MayHaveBlocks r.form input → (vs : List (List ℕ)) → AreBlocks input vs → (text : List ℕ) → AppendsConversions r vs [] text
+  in_blocks : HasBlocks r.form input → (vs : List (List ℕ)) → AreBlocks input vs → (text : List ℕ) → AppendsConversions r vs [] text
       → Puts text out_old out_new err_old err_new s → Ends r input out_old out_new err_old err_new s
-  alone : (v : List ℕ) → IsWhole r.from r.form input v → (text : List ℕ) → AppendsConversion r v [] text
+  alone : HasNoBlocks r.form input → (v : List ℕ) → IsReadAs r.from r.form input v → (text : List ℕ) → AppendsConversion r v [] text
       → Puts text out_old out_new err_old err_new s → Ends r input out_old out_new err_old err_new s
-  no_blocks : MayHaveBlocks r.form input → (e : Refusal) → IsUnconverted r input e → Refuses e out_old out_new err_old err_new s
+  no_blocks : HasBlocks r.form input → (e : Refusal) → IsUnconverted r input e → Refuses e out_old out_new err_old err_new s
       → Ends r input out_old out_new err_old err_new s
-  refused : (e : Refusal) → IsRefusedIn r (IsWhole r.from r.form input) e → Refuses e out_old out_new err_old err_new s
+  refused : HasNoBlocks r.form input → (e : Refusal) → IsRefusedAlone r input e → Refuses e out_old out_new err_old err_new s
       → Ends r input out_old out_new err_old err_new s
 
 -- a file was read, and it ended so; or it wasn't, and nothing was written

@@ -1,4 +1,3 @@
 pub mod Words
-pub mod Carried
 pub mod Refusals
 pub mod Ends

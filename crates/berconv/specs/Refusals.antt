@@ -5,8 +5,11 @@ use Rattle.encodings.specs.Status.{beyond, ended}
 use Rattle.berconv.specs.declared.refusal.Refusal.{Refusal}
 use Rattle.berconv.specs.declared.refusal.Refusal.TheVariants.{NoValues, NotConverted, NoMemory, NoBlock, Unended}
 use Rattle.berconv.specs.declared.refusal.Refusal.TheVariants.{OtherLabel, Headers, NotBase64, Misspelled}
-use Rattle.berconv.specs.declared.status.Status.{Status}
-use Rattle.berconv.specs.declared.status.Status.TheVariants as status
+use Rattle.cli.specs.declared.pem.BlockError.{BlockError}
+use Rattle.cli.specs.declared.pem.BlockError.TheVariants as error
+use Rattle.cli.specs.declared.pem.Unended.TheVariants as unended
+use Rattle.cli.specs.declared.status.Status.{Status}
+use Rattle.cli.specs.declared.status.Status.TheVariants as status
 
 -- why no value begins
 abbrev pub why_text : ℕ → List ℕ
@@ -72,3 +75,11 @@ status_of OtherLabel = status.Refused
 status_of Headers = status.Refused
 status_of NotBase64 = status.Refused
 status_of Misspelled = status.Refused
+
+-- why a block isn't converted that carries no octets
+abbrev pub refusal_of : BlockError → Refusal
+refusal_of (error.Unended unended.Missing) = Unended
+refusal_of (error.Unended (unended.Label label)) = OtherLabel
+refusal_of (error.Headers name) = Headers
+refusal_of error.NotBase64 = NotBase64
+refusal_of error.NoMemory = NoMemory

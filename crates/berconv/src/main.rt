@@ -8,11 +8,14 @@
 mod refusal;
 mod request;
 mod run;
-mod status;
 
 use crate::request::{Asked, Request};
+use cli::program;
+use std::io;
 use std::process::ExitCode;
-use std::{env, io};
+
+/// The name of the program.
+const PROGRAM: &str = "berconv";
 
 /// How to use the program, in a line.
 const USAGE: &str = "usage: berconv [OPTION ..] [FILE]";
@@ -42,13 +45,6 @@ can't be read, or if the usage is wrong.
 /// What `--version` writes.
 const VERSION: &str = "berconv 0.7.7\n";
 
-/// Returns the arguments without the name of the program.
-fn arguments(rt: &HostRuntime) -> io::Result<Vec<String>> {
-    let mut args = env::args(rt)?;
-    let _program = args.next();
-    Ok(args.collect(rt.alloc())?)
-}
-
 /// Writes a text, and returns the exit status.
 fn show(rt: &HostRuntime, text: &str) -> u8 {
     run::put(text.as_bytes(), &mut rt.stdout(), &mut rt.stderr()).code()
@@ -64,25 +60,15 @@ fn convert(rt: &HostRuntime, request: Request<'_>, name: &str) -> u8 {
 
 /// Does what the arguments ask for, and returns the exit status.
 fn answer(rt: &HostRuntime) -> io::Result<u8> {
-    let args = arguments(rt)?;
-    match request::read(&args) {
+    let words = program::words(rt)?;
+    match request::read(&words) {
         Ok(Asked::Help) => Ok(show(rt, HELP)),
         Ok(Asked::Version) => Ok(show(rt, VERSION)),
         Ok(Asked::Conversion(request, name)) => Ok(convert(rt, request, name)),
-        Err(misuse) => {
-            eprintln!(rt; "berconv: {misuse}")?;
-            eprintln!(rt; "{USAGE}")?;
-            Ok(2)
-        }
+        Err(misuse) => program::refuse(rt, PROGRAM, USAGE, misuse),
     }
 }
 
 fn main(rt: HostRuntime) -> ExitCode {
-    match answer(&rt) {
-        Ok(status) => ExitCode::from(status),
-        Err(error) => {
-            let _ = eprintln!(rt; "berconv: {error}");
-            ExitCode::from(2)
-        }
-    }
+    program::exit(&rt, PROGRAM, answer(&rt))
 }

@@ -1,12 +1,11 @@
 //! Why something isn't converted, and how it is said.
 ghost use Rattle.std.specs.Prelude.{◌≡◌, IfOk, string_bytes};
-ghost use Rattle.bcder.specs.calls.Target.{AppendsFront};
 ghost use Rattle.berconv.specs.Refusals.{message, reason_of, status_of};
 ghost use Rattle.berconv.specs.Refusals.{RefusedWith};
 
-use crate::status::Status;
 use bcder::NoMemory;
-use bcder::encode::write_octets;
+use cli::status::Status;
+use cli::tell::put;
 use encodings::status::{BEYOND, ENDED};
 use std::alloc::Global;
 use std::io;
@@ -102,13 +101,6 @@ fn message_of(alloc: Global, block: usize, refusal: Refusal) -> Result<String, N
     Ok(text)
 }
 
-/// Writes a message, and ignores a failure of the target.
-pub(crate) fn tell<E: io::Write>(err: &mut E, message: &str)
-    ensures { AppendsFront (E.contents err.old) (E.contents err.new) message.now }
-{
-    let _ = write_octets(err, message.as_bytes());
-}
-
 /// Says why something isn't converted, and returns how the conversion ends.
 pub(crate) fn refuse<E: io::Write>(
     alloc: Global,
@@ -120,8 +112,8 @@ pub(crate) fn refuse<E: io::Write>(
     ensures status { result ≡ status_of refusal }
 {
     match message_of(alloc, block, refusal) {
-        Ok(text) => tell(err, text.as_str()),
-        Err(NoMemory) => tell(err, OUT_OF_MEMORY),
+        Ok(text) => put(err, text.as_str()),
+        Err(NoMemory) => put(err, OUT_OF_MEMORY),
     }
     refusal.status()
 }

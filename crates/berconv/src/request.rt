@@ -5,12 +5,10 @@ ghost use Rattle.cli.specs.Armor.{is_label};
 ghost use Rattle.berconv.specs.Words.{IsRules, IsTaken};
 
 use bcder::Mode;
-use cli::arguments::{Argument, Arguments};
+use cli::arguments::{Argument, Arguments, Misuse};
 use cli::armor::is_label;
 use cli::files::STDIN;
 use cli::form::Form;
-use cli::shown::Shown;
-use std::fmt;
 
 /// What is to be converted, and how.
 #[derive(Clone, Copy, Debug)]
@@ -44,41 +42,6 @@ pub(crate) enum Asked<'a> {
     Conversion(Request<'a>, &'a str),
 }
 
-/// Why arguments ask for nothing.
-#[derive(Clone, Copy)]
-pub(crate) enum Misuse<'a> {
-    /// There is no such option.
-    Option(&'a str),
-
-    /// Another file was named before this one.
-    SecondFile(&'a str),
-
-    /// No rules follow this option.
-    Rules(&'a str),
-
-    /// The values of a SET have no order in the rules that are named.
-    Sorting,
-
-    /// No form follows the option for it.
-    Form,
-
-    /// No label follows the option for it.
-    Label,
-}
-
-impl fmt::Display for Misuse<'_> {
-    fn fmt<W: fmt::Write>(&self, f: &mut fmt::Formatter<W>) -> fmt::Result {
-        match self {
-            Misuse::Option(word) => write!(f, "{}: no such option", Shown(word)),
-            Misuse::SecondFile(word) => write!(f, "{}: a second file", Shown(word)),
-            Misuse::Rules(option) => write!(f, "{option}: ber, cer or der has to follow"),
-            Misuse::Sorting => write!(f, "--sort-sets: in BER a SET has no order"),
-            Misuse::Form => write!(f, "--input: hex, base64, pem or der has to follow"),
-            Misuse::Label => write!(f, "--pem: a label has to follow"),
-        }
-    }
-}
-
 /// Returns the rules that follow an option.
 fn rules<'a>(option: &'a str, args: &mut Arguments<'a>) -> Result<Mode, Misuse<'a>>
     ensures rules { IfOk result (IsRules args.old args.new) }
@@ -88,36 +51,21 @@ fn rules<'a>(option: &'a str, args: &mut Arguments<'a>) -> Result<Mode, Misuse<'
         Some("ber") => Ok(Mode::Ber),
         Some("cer") => Ok(Mode::Cer),
         Some("der") => Ok(Mode::Der),
-        _ => Err(Misuse::Rules(option)),
+        _ => Err(Misuse::Word(option, "ber, cer or der has to follow")),
     }
 }
 
-/// Returns the form that follows the option for it.
-fn form<'a>(args: &mut Arguments<'a>) -> Result<Form, Misuse<'a>>
-    ensures { OnOk result (IsTaken args.old args.new) }
-{
-    let Some(word) = args.value() else {
-        return Err(Misuse::Form);
-    };
-    match Form::named(word) {
-        Some(form) => Ok(form),
-        None => Err(Misuse::Form),
-    }
-}
-
-/// Returns the label that follows the option for it.
-fn label<'a>(args: &mut Arguments<'a>) -> Result<&'a str, Misuse<'a>>
+/// Returns the label that follows an option.
+fn label<'a>(option: &'a str, args: &mut Arguments<'a>) -> Result<&'a str, Misuse<'a>>
     ensures label { IfOk result (λ label. is_label label.now ≡ true) }
     ensures taken { OnOk result (IsTaken args.old args.new) }
 {
-    let Some(word) = args.value() else {
-        return Err(Misuse::Label);
-    };
-    if is_label(word) {
-        Ok(word)
-    } else {
-        Err(Misuse::Label)
+    if let Some(word) = args.value() {
+        if is_label(word) {
+            return Ok(word);
+        }
     }
+    Err(Misuse::Word(option, "a label has to follow"))
 }
 
 /// Returns what the arguments ask for, or why they ask for nothing. Of an option that stands there
@@ -136,7 +84,7 @@ pub(crate) fn read(words: &[String]) -> Result<Asked<'_>, Misuse<'_>> {
         let option = match argument {
             Argument::File(name) => {
                 if file.is_some() {
-                    return Err(Misuse::SecondFile(name));
+                    return Err(Misuse::Word(name, "a second file"));
                 }
                 file = Some(name);
                 continue;
@@ -147,15 +95,15 @@ pub(crate) fn read(words: &[String]) -> Result<Asked<'_>, Misuse<'_>> {
             "--from" => request.from = rules(option, &mut args)?,
             "--to" => request.to = rules(option, &mut args)?,
             "--sort-sets" => request.sorts = true,
-            "--input" => request.form = Some(form(&mut args)?),
-            "--pem" => request.pem = Some(label(&mut args)?),
+            "--input" => request.form = Some(args.form(option)?),
+            "--pem" => request.pem = Some(label(option, &mut args)?),
             "-h" | "--help" => return Ok(Asked::Help),
             "--version" => return Ok(Asked::Version),
-            _ => return Err(Misuse::Option(option)),
+            _ => return Err(Misuse::Word(option, "no such option")),
         }
     }
     if request.sorts && request.to == Mode::Ber {
-        return Err(Misuse::Sorting);
+        return Err(Misuse::Word("--sort-sets", "in BER a SET has no order"));
     }
     Ok(Asked::Conversion(request, file.unwrap_or(STDIN)))
 }

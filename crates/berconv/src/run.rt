@@ -1,45 +1,38 @@
 //! Converts what was read.
-ghost use Rattle.std.specs.Prelude.{◌≡◌, ◌++◌, [], ℕ, List, Ok, IsTrue, OnOk, OnErr, IfOk, IfErr};
+ghost use Rattle.std.specs.Prelude.{◌≡◌, ◌++◌, [], ℕ, List, OnOk, OnErr, IfOk, IfErr};
 ghost use Rattle.std.specs.Io.KnownBytes.{Appends};
 ghost use Rattle.bcder.specs.calls.Target.{AppendsFront};
 ghost use Rattle.encodings.specs.Conversion.{IsConversion};
 ghost use Rattle.encodings.specs.Values.{AreNoValues};
-ghost use Rattle.berconv.specs.Carried.{AreBlocks, IsBlockOf, IsFound, IsSpelling, IsWhole};
-ghost use Rattle.berconv.specs.Carried.{MayHaveBlocks};
+ghost use Rattle.cli.specs.Pem.{AreBlocks, HasOctets};
+ghost use Rattle.cli.specs.Spelled.{IsReadAs};
 ghost use Rattle.berconv.specs.Ends.{AppendsConversion, AppendsConversions, Ends, Puts, Runs};
-ghost use Rattle.berconv.specs.Ends.{IsConverted, IsInOrder, IsRefused, IsRefusedIn};
-ghost use Rattle.berconv.specs.Ends.{IsUnconverted, IsUnreadable, text_of};
+ghost use Rattle.berconv.specs.Ends.{IsConverted, IsInOrder, IsRefused, IsRefusedAlone};
+ghost use Rattle.berconv.specs.Ends.{IsRefusedBlock, IsUnconverted, text_of};
+ghost use Rattle.berconv.specs.Refusals.{refusal_of};
 
-use crate::refusal::{Refusal, refuse, tell};
+use crate::PROGRAM;
+use crate::refusal::{Refusal, refuse};
 use crate::request::Request;
-use crate::status::Status;
 use bcder::encode::write_octets;
 use bcder::{Mode, NoMemory};
 use cli::armor::append_block;
 use cli::files::Input;
-use cli::form::{Form, Misspelled, from_base64, from_hex};
-use cli::pem::{Block, Unended, header_in, next_block};
-use cli::shown::Shown;
+use cli::form::Misspelled;
+use cli::pem::{Block, BlockError, Unended, has_blocks, next_block, octets_in};
+use cli::spelled::spelled_in;
+use cli::status::Status;
+use cli::tell::{Place, put as put_message, tell};
 use encodings::checked::Checked;
 use encodings::convert::convert;
 use encodings::sets::sort_sets;
-use encodings::status::{ABSENT, DONE, NO_MEMORY, NOT_CONVERTED, TOO_SMALL};
-use encodings::values::{are_values, check};
+use encodings::status::{ABSENT, DONE, NO_MEMORY, NO_ORDER, NOT_CONVERTED, TOO_SMALL};
+use encodings::values::check;
 use std::alloc::{AllocError, Global};
 use std::io;
 
 /// The message if the target fails.
 const UNWRITTEN: &str = "berconv: the output can't be written\n";
-
-/// Octets that a file spells, in hexadecimal or in base 64.
-#[derive(Drop)]
-enum Spelled {
-    /// These octets.
-    Octets(Vec<u8>),
-
-    /// The file is to be read as it is.
-    Nothing,
-}
 
 /// Writes octets and flushes the target.
 fn write_all<W: io::Write>(octets: &[u8], out: &mut W) -> Result<(), io::Error>
@@ -57,9 +50,9 @@ pub(crate) fn put<W: io::Write, E: io::Write>(octets: &[u8], out: &mut W, err: &
         (E.contents err.old) (E.contents err.new) result }
 {
     match write_all(octets, out) {
-        Ok(()) => Status::Written,
+        Ok(()) => Status::Done,
         Err(_) => {
-            tell(err, UNWRITTEN);
+            put_message(err, UNWRITTEN);
             Status::Failed
         }
     }
@@ -88,11 +81,8 @@ fn sort(alloc: Global, sorts: bool, to: Mode, values: &mut [u8]) -> Result<(), N
     if !sorts {
         return Ok(());
     }
-    if to == Mode::Ber {
-        return Ok(());
-    }
     match sort_sets(alloc, to, values) {
-        DONE => Ok(()),
+        DONE | NO_ORDER => Ok(()),
         _ => Err(NoMemory),
     }
 }
@@ -178,31 +168,16 @@ fn append_converted(
     }
 }
 
-/// Returns what stands in a block between its beginning and its end.
-fn body_in<'a>(block: Block<'a>) -> Result<&'a [u8], Refusal>
-    ensures body { IfOk result (λ body. block.entry.body ≡ Ok body) }
-    ensures refused { IfErr result IsUnreadable }
+/// Returns why a block isn't converted that carries no octets.
+fn refusal_of_block(error: BlockError<'_>) -> Refusal
+    ensures { result ≡ refusal_of error.entry }
 {
-    match block.body {
-        Ok(body) => Ok(body),
-        Err(Unended::Missing) => Err(Refusal::Unended),
-        Err(Unended::Label(_)) => Err(Refusal::OtherLabel),
-    }
-}
-
-/// Returns the octets of a block.
-fn octets_in(alloc: Global, block: Block<'_>) -> Result<Vec<u8>, Refusal>
-    ensures octets { IfOk result (λ v. IsBlockOf block.entry v.items) }
-    ensures refused { IfErr result IsUnreadable }
-{
-    let body = body_in(block)?;
-    if header_in(body).is_some() {
-        return Err(Refusal::Headers);
-    }
-    match from_base64(alloc, body) {
-        Ok(octets) => Ok(octets),
-        Err(Misspelled::NoMemory) => Err(Refusal::NoMemory),
-        Err(Misspelled::Form) => Err(Refusal::NotBase64),
+    match error {
+        BlockError::Unended(Unended::Missing) => Refusal::Unended,
+        BlockError::Unended(Unended::Label(_)) => Refusal::OtherLabel,
+        BlockError::Headers(_) => Refusal::Headers,
+        BlockError::NotBase64 => Refusal::NotBase64,
+        BlockError::NoMemory => Refusal::NoMemory,
     }
 }
 
@@ -213,12 +188,14 @@ fn append_from_block(
     block: Block<'_>,
     text: &mut Vec<u8>,
 ) -> Result<(), Refusal>
-    ensures appended { OnOk result ((octets : List ℕ) × IsBlockOf block.entry octets
+    ensures appended { OnOk result ((octets : List ℕ) × HasOctets block.entry octets
         × AppendsConversion request.entry octets text.old.items text.new.items) }
-    ensures refused { IfErr result (IsRefusedIn request.entry (IsBlockOf block.entry)) }
+    ensures refused { IfErr result (IsRefusedBlock request.entry block.entry) }
 {
-    let octets = octets_in(alloc, block)?;
-    append_converted(alloc, request, &octets, text)
+    match octets_in(alloc, block) {
+        Ok(octets) => append_converted(alloc, request, &octets, text),
+        Err(error) => Err(refusal_of_block(error)),
+    }
 }
 
 /// Appends what is written of all blocks of a text, or returns which of them isn't converted, and
@@ -242,90 +219,22 @@ fn append_blocks(
             Err(refusal) => return Err((number, refusal)),
         }
     }
-    if number == 0 {
-        return Err((0, Refusal::NoBlock));
-    }
     Ok(())
-}
-
-/// Returns whether octets are to be read as blocks.
-fn has_blocks(form: Option<Form>, octets: &[u8]) -> bool
-    ensures { IsTrue result → MayHaveBlocks form octets.now }
-{
-    match form {
-        Some(form) => form == Form::Pem,
-        None => next_block(octets).is_some(),
-    }
-}
-
-/// Returns what octets in a form spell.
-fn spelled_as(spelled: Result<Vec<u8>, Misspelled>) -> Result<Spelled, Refusal>
-    ensures same { IfOk result (λ s. (v : _) × (s ≡ Spelled.Octets v) × (spelled ≡ Ok v)) }
-    ensures refused { IfErr result IsUnreadable }
-{
-    match spelled {
-        Ok(octets) => Ok(Spelled::Octets(octets)),
-        Err(Misspelled::NoMemory) => Err(Refusal::NoMemory),
-        Err(Misspelled::Form) => Err(Refusal::Misspelled),
-    }
-}
-
-/// Returns what octets spell that are no values, if they are a text in hexadecimal or in base 64.
-fn found_in(alloc: Global, octets: &[u8]) -> Result<Spelled, Refusal>
-    ensures found { IfOk result (IsFound octets.now) }
-    ensures refused { IfErr result IsUnreadable }
-{
-    match from_hex(alloc, octets) {
-        Ok(spelled) => return Ok(Spelled::Octets(spelled)),
-        Err(Misspelled::NoMemory) => return Err(Refusal::NoMemory),
-        Err(Misspelled::Form) => {}
-    }
-    match from_base64(alloc, octets) {
-        Ok(spelled) => Ok(Spelled::Octets(spelled)),
-        Err(Misspelled::NoMemory) => Err(Refusal::NoMemory),
-        Err(Misspelled::Form) => Ok(Spelled::Nothing),
-    }
-}
-
-/// Returns what octets spell, in the form that is asked for or found.
-fn spelled_in(
-    alloc: Global,
-    from: Mode,
-    form: Option<Form>,
-    octets: &[u8],
-) -> Result<Spelled, Refusal>
-    ensures spelled { IfOk result (IsSpelling from form octets.now) }
-    ensures refused { IfErr result IsUnreadable }
-{
-    match form {
-        Some(Form::Hex) => spelled_as(from_hex(alloc, octets)),
-        Some(Form::Base64) => spelled_as(from_base64(alloc, octets)),
-        Some(Form::Octets) | Some(Form::Pem) => Ok(Spelled::Nothing),
-        None => {
-            if !octets.is_ascii() {
-                return Ok(Spelled::Nothing);
-            }
-            match are_values(alloc, from, octets) {
-                DONE => Ok(Spelled::Nothing),
-                NO_MEMORY => Err(Refusal::NoMemory),
-                _ => found_in(alloc, octets),
-            }
-        }
-    }
 }
 
 /// Returns what is written of an input without blocks.
 fn converted_alone(alloc: Global, request: Request<'_>, octets: &[u8]) -> Result<Vec<u8>, Refusal>
     ensures converted { IfOk result (λ text. (part : List ℕ)
-        × IsWhole request.entry.from request.entry.form octets.now part
+        × IsReadAs request.entry.from request.entry.form octets.now part
         × AppendsConversion request.entry part [] text.items) }
-    ensures refused { IfErr result
-        (IsRefusedIn request.entry (IsWhole request.entry.from request.entry.form octets.now)) }
+    ensures refused { IfErr result (IsRefusedAlone request.entry octets.now) }
 {
     let mut text = Vec::new(alloc);
-    match spelled_in(alloc, request.from, request.form, octets)? {
-        Spelled::Octets(spelled) => append_converted(alloc, request, &spelled, &mut text)?,
-        Spelled::Nothing => append_converted(alloc, request, octets, &mut text)?,
+    match spelled_in(alloc, request.from, request.form, octets) {
+        Ok(Some(spelled)) => append_converted(alloc, request, &spelled, &mut text)?,
+        Ok(None) => append_converted(alloc, request, octets, &mut text)?,
+        Err(Misspelled::NoMemory) => return Err(Refusal::NoMemory),
+        Err(Misspelled::Form) => return Err(Refusal::Misspelled),
     }
     Ok(text)
 }
@@ -340,6 +249,9 @@ fn converted_blocks(
         × AppendsConversions request.entry parts [] text.items) }
     ensures refused { IfErr result (λ r. IsUnconverted request.entry octets.now r.1) }
 {
+    if next_block(octets).is_none() {
+        return Err((0, Refusal::NoBlock));
+    }
     let mut text = Vec::new(alloc);
     append_blocks(alloc, request, octets, &mut text)?;
     Ok(text)
@@ -386,8 +298,11 @@ pub(crate) fn run<W: io::Write, E: io::Write>(
     match &input.octets {
         Ok(octets) => run_read(alloc, request, octets, out, err),
         Err(error) => {
-            let title = Shown(input.title());
-            let _ = write!(err, "berconv: {title}: {error}\n");
+            let place = Place {
+                file: Some(input.title()),
+                block: None,
+            };
+            tell(alloc, PROGRAM, place, error, err);
             Status::Unread
         }
     }

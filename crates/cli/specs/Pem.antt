@@ -126,7 +126,12 @@ pub data IsAmong (b : Block) : List ℕ → Type 0 where
   next : {text : List ℕ} → IsNext text b → IsAmong b text
   later : {text : List ℕ} (a : Block) → IsNext text a → IsAmong b a.rest.now → IsAmong b text
 
--- the blocks of a text carry these octets, each its own, and no other block begins there
+-- blocks that carry these octets stand in a text, one behind the other, before the rest
+abbrev pub StandBefore : List ℕ → List ℕ → List (List ℕ) → Type 0
+StandBefore rest text [] = rest ≡ text
+StandBefore rest text (v ∷ vs) = (b : Block) × IsNext text b × HasOctets b v × StandBefore rest b.rest.now vs
+
+-- the blocks of a text carry these octets, and no other begins there
 abbrev pub AreBlocks : List ℕ → List (List ℕ) → Type 0
 AreBlocks text [] = HasNoBlock text
 AreBlocks text (v ∷ vs) = (b : Block) × IsNext text b × HasOctets b v × AreBlocks b.rest.now vs
