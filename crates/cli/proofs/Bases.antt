@@ -1,5 +1,5 @@
 -- What a text in base 64 spells.
-use Rattle.std.proofs.Common.{◌≡◌, ℕ, List, Bool, true, false, Ok, Err, Result, sym, ap, subst, ◌∙◌}
+use Rattle.std.proofs.Common.{◌≡◌, ℕ, List, true, false, Ok, Err, ap, subst, ◌∙◌}
 use Rattle.base64.specs.GeneralPurpose.{IsConfig, config_padding, config_trailing_bits, config_mode, decode_of}
 use Rattle.base64.specs.declared.decode.DecodeError.{DecodeError}
 use Rattle.base64.specs.declared.engine.DecodePaddingMode.TheVariants.{RequireCanonical}

@@ -1,15 +1,15 @@
 -- Parts of octets.
-use Rattle.std.proofs.Common.{◌≡◌, ◌≢◌, ℕ, ◌+◌, ◌-◌, ◌<◌, ◌≤◌, ◌⊎◌, Bool, true, false, List, [], ◌∷◌, ◌++◌, length, take, drop, get_or, suc, reverse, codes, add-one}
+use Rattle.std.proofs.Common.{◌≡◌, ℕ, ◌+◌, ◌-◌, ◌<◌, ◌≤◌, Bool, true, false, List, [], ◌∷◌, ◌++◌, length, take, drop, get_or, suc, codes, add-one}
 use Rattle.std.proofs.Common.{refl, ap, sym, subst, ◌∙◌, append_assoc, append-nil, length-append, length-drop, take-append-drop, arith, inl, inr}
 use Rattle.std.proofs.lemmas.Bool.{cases_lt}
-use Rattle.std.proofs.lemmas.List.{drop-append-le, length-take-le, reverse-append, reverse-reverse}
+use Rattle.std.proofs.lemmas.List.{drop-append-le, length-take-le}
 use Rattle.std.proofs.Math.Seq.{drop-append_seam, take-append_seam, take-suc, drop-cons}
 use lib.Pointwise.{pointwise, pointwise_decides}
-use Rattle.std.specs.Prelude.{nat_eq, ◌||◌, if◌then◌else◌}
+use Rattle.std.specs.Prelude.{nat_eq, if◌then◌else◌}
 use Rattle.std.proofs.lemmas.Bool.{eqb-true, eq-eqb}
 use Rattle.std.proofs.Common.{Option, Some, None, MatchOption, IfSome, Bor}
 use Rattle.std.specs.Str.{IsTrimAsciiEnd}
-use Rattle.cli.specs.Pem.{IsLabelLine, IsSplit, Lacks, line_of, after_line, ends_line, starts_line, mark_back, IsNoBlock}
+use Rattle.cli.specs.Pem.{IsLabelLine, IsSplit, Lacks, line_of, after_line, ends_line}
 
 -- ---- marks
 

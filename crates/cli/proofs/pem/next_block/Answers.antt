@@ -1,4 +1,4 @@
-use Rattle.std.proofs.Common.{◌+◌, ◌≤◌, length, take, subst, codes, arith}
+use Rattle.std.proofs.Common.{◌+◌, length, take, subst, codes, arith}
 use Rattle.cli.specs.Pem.{IsBlock, IsNoBlock}
 use Rattle.cli.proofs.Parts.{found_in, lacks_in, stands, start_fits, first_there, passed_too, none_left}
 use Rattle.cli.proofs.pem.next_block.Goals as goal
