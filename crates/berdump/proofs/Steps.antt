@@ -21,8 +21,8 @@ use Rattle.berdump.specs.Reasons.{IsCutShort, IsReason, IsRefusedAt}
 use Rattle.berdump.specs.Listing.{heading, IsFront, Holds, HoldsNone}
 use Rattle.berdump.specs.Opened.{behind_all, Goes, Fits, GoesOn}
 use Rattle.berdump.specs.Answers.{Stands, Written, IsUnwritten, Listed}
-use Rattle.berdump.specs.Walk.{IsAt, PassesContents, Meets, Stops, left}
-use Rattle.berdump.proofs.Walking.{Front, stands, meets_primitive, meets_definite, meets_opened, meets_indefinite}
+use Rattle.berdump.specs.Walk.{IsAt, Follows, PassesContents, Meets, Stops, left}
+use Rattle.berdump.proofs.Walking.{Front, Stays, stands, meets_primitive, meets_definite, meets_opened, meets_indefinite}
 use Rattle.berdump.proofs.Walking.{no_list_at_contents, no_list_at_header, within, unlisted_by, in_part, begins, ends, closes}
 
 pub front_of : (mode : Mode) (t : Tag) (form : Bool) (len : Option ℕ) (w r : List ℕ) → (h : List ℕ) × IsHeader mode t form (length_of len) h × (w ≡ h ++ r)
@@ -42,29 +42,29 @@ module _ (scope : Scope) (mode : Mode) (b c : Option (List ℕ)) (es : List Open
 
   pub step_indefinite : (fs : List Open) → len ≡ None → Written scope (h ∷ []) b c → fs ≡ level.Indefinite ∷ es
       → Meets scope mode es w at b fs r (at + (length w - length r)) c
-  step_indefinite fs is_len k e octets a s = subst (λ z. IsAt scope mode octets a c z r (at + (length w - length r))) (sym e)
+  step_indefinite fs is_len k e octets a s = subst (λ z. Follows scope mode octets a c s.headings at z r (at + (length w - length r))) (sym e)
       (meets_indefinite scope mode octets a b c es w r at t form len s f open_here some is_len (line k))
 
   pub step_definite : (fs : List Open) (behind : Bor (List ℕ)) (v : List ℕ) (n : ℕ) → len ≡ Some n → form ≡ true → n ≤ length r → behind.now ≡ drop n r
       → v ≡ take n r → Written scope (h ∷ []) b c → fs ≡ level.Definite behind ∷ es → Meets scope mode es w at b fs v (at + (length w - length r)) c
   step_definite fs behind v n is_len is_form fits is_behind is_v k e octets a s =
-      subst (λ z. IsAt scope mode octets a c z v (at + (length w - length r))) (sym e)
+      subst (λ z. Follows scope mode octets a c s.headings at z v (at + (length w - length r))) (sym e)
       (meets_definite scope mode octets a b c es w r at t form len s f open_here some behind v n is_len is_form fits is_behind is_v (line k))
 
   pub step_primitive : (fs : List Open) (contents behind v : List ℕ) (n d : ℕ) → len ≡ Some n → form ≡ false → n ≤ length r → contents ≡ take n r → behind
       ≡ drop n r → Written scope (h ∷ []) b c → PassesContents scope mode t contents behind (at + (length w - length r)) es fs v d → Meets scope mode es w at b fs v d c
   step_primitive fs contents behind v n d is_len is_form fits is_contents is_behind k (PassesContents.passed none e is_v is_d) octets a s =
       let size : length contents ≡ n = ap length is_contents ∙ length-take-le n r fits in
-      let here : IsAt scope mode octets a c es (drop n r) (at + (length w - length r) + n) = meets_primitive scope mode octets a b c es w r at t form len s f
+      let here : Follows scope mode octets a c s.headings at es (drop n r) (at + (length w - length r) + n) = meets_primitive scope mode octets a b c es w r at t form len s f
       open_here some n is_len is_form fits (λ z. subst (HoldsNone mode t) is_contents (none z)) (line k) in
-      subst (λ z. IsAt scope mode octets a c z v d) (sym e) (subst (λ z. IsAt scope mode octets a c es z d) (sym (is_v ∙ is_behind))
-      (subst (λ z. IsAt scope mode octets a c es (drop n r) z) (ap (λ m. at + (length w - length r) + m) (sym size) ∙ sym is_d) here))
+      subst (λ z. Follows scope mode octets a c s.headings at z v d) (sym e) (subst (λ z. Follows scope mode octets a c s.headings at es z d) (sym (is_v ∙ is_behind))
+      (subst (λ z. Follows scope mode octets a c s.headings at es (drop n r) z) (ap (λ m. at + (length w - length r) + m) (sym size) ∙ sym is_d) here))
   step_primitive fs contents behind v n d is_len is_form fits is_contents is_behind k (PassesContents.opened bor is_deep held is_bor e is_d) octets a s =
       let size : length contents ≡ n = ap length is_contents ∙ length-take-le n r fits in
-      let here : IsAt scope mode octets a c (level.Definite bor ∷ es) v (at + (length w - length r) + (n - length v)) =
+      let here : Follows scope mode octets a c s.headings at (level.Definite bor ∷ es) v (at + (length w - length r) + (n - length v)) =
       meets_opened scope mode octets a b c es w r at t form len s f open_here some bor v n is_deep is_len is_form fits (is_bor ∙ is_behind)
       (subst (λ z. Holds mode t z v) is_contents held) (line k) in
-      subst (λ z. IsAt scope mode octets a c z v d) (sym e) (subst (λ z. IsAt scope mode octets a c (level.Definite bor ∷ es) v z)
+      subst (λ z. Follows scope mode octets a c s.headings at z v d) (sym e) (subst (λ z. Follows scope mode octets a c s.headings at (level.Definite bor ∷ es) v z)
       (ap (λ m. at + (length w - length r) + (m - length v)) (sym size) ∙ sym is_d) here)
 
   pub stops_unwritten : (e : ListError) → IsUnwritten scope h b c e → Stops scope mode es w at b c e
@@ -155,17 +155,18 @@ passes_over scope mode t contents behind at es fs held n h k = PassesContents.pa
 -- ---- the loop
 
 pub begins_with : (scope : Scope) (mode : Mode) (octets : List ℕ) (a b : Option (List ℕ)) (es : List Open) → a ≡ b → es ≡ []
-    → IsAt scope mode octets a b es octets scope.from
+    → Stays scope mode octets a b es octets scope.from []
 begins_with scope mode octets a b es e n =
-    subst (λ z. IsAt scope mode octets a z es octets scope.from) e (subst (λ z. IsAt scope mode octets a a z octets scope.from) (sym n) (begins scope mode octets a))
+    subst (λ z. Stays scope mode octets a z es octets scope.from []) e
+    (subst (λ z. Stays scope mode octets a a z octets scope.from []) (sym n) (begins scope mode octets a))
 
 pub ends_with : (scope : Scope) (mode : Mode) (octets w : List ℕ) (a b : Option (List ℕ)) (es : List Open) (at : ℕ) → es ≡ [] → w ≡ []
     → IsAt scope mode octets a b es w at → Listed scope mode octets a b
 ends_with scope mode octets w a b es at n e s = ends scope mode octets w a b at e (subst (λ z. IsAt scope mode octets a b z w at) n s)
 
 pub closes_with : (scope : Scope) (mode : Mode) (octets : List ℕ) (a b : Option (List ℕ)) (es fs : List Open) (w v : List ℕ) (at n : ℕ)
-    → IsAt scope mode octets a b es w at → ((d : Scope) (m : ℕ) → Goes d mode es w m fs v (m + n)) → (Fits mode es w → Fits mode fs v)
-    → (p : List ℕ) × (length p ≡ n) × (w ++ behind_all es ≡ p ++ (v ++ behind_all fs)) → IsAt scope mode octets a b fs v (at + n)
+    → (s : IsAt scope mode octets a b es w at) → ((d : Scope) (m : ℕ) → Goes d mode es w m fs v (m + n)) → (Fits mode es w → Fits mode fs v)
+    → (p : List ℕ) × (length p ≡ n) × (w ++ behind_all es ≡ p ++ (v ++ behind_all fs)) → Stays scope mode octets a b fs v (at + n) s.headings
 closes_with scope mode octets a b es fs w v at n s g m p = closes scope mode octets a b es fs w v p.0 at n s (g scope at) m p.1 p.2
 
 pub less_closed : (es fs : List Open) (w v : List ℕ) (n : ℕ) → length fs + 1 ≡ length es

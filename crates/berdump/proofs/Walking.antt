@@ -23,7 +23,7 @@ use Rattle.berdump.specs.declared.list.ListError.{ListError}
 use Rattle.berdump.specs.declared.list.ListError.TheVariants.{Refused, NoMemory, Target}
 use Rattle.bcder.specs.calls.Target.{AppendsShorter}
 use Rattle.berdump.specs.Answers.{Stands, AllStand, Written, Listed, ListedInPart, IsUnlisted, IsUnwritten}
-use Rattle.berdump.specs.Walk.{IsAt}
+use Rattle.berdump.specs.Walk.{IsAt, Follows}
 use Rattle.berdump.proofs.Fitting.{contents_are_here, fits_primitive, fits_definite, fits_indefinite, no_list_without_header}
 use Rattle.berdump.proofs.Listing.{value_first}
 
@@ -58,16 +58,25 @@ stand_join scope mode octets (x ∷ hs) gs h k = (h.0, stand_join scope mode oct
 
 -- ---- steps
 
-pub begins : (scope : Scope) (mode : Mode) (octets : List ℕ) (a : Option (List ℕ)) → IsAt scope mode octets a a [] octets scope.from
+-- a listing has met these headings
+pub record Stays (scope : Scope) (mode : Mode) (octets : List ℕ) (a b : Option (List ℕ)) (es : List Open) (w : List ℕ) (at : ℕ) (hs : List Heading)
+    : Type 0 where
+  pub next : IsAt scope mode octets a b es w at
+  pub same : next.headings ≡ hs
+
+pub begins : (scope : Scope) (mode : Mode) (octets : List ℕ) (a : Option (List ℕ)) → Stays scope mode octets a a [] octets scope.from []
 begins scope mode octets a = record {
-  headings = [];
-  written = record { text = []; lines = refl; appends = Appends-nil a };
-  stand = tt;
-  goes = λ hs k. k;
-  fits = λ h. h;
-  passed = [];
-  offset = omega arith;
-  are = sym (append-nil octets);
+  next = record {
+    headings = [];
+    written = record { text = []; lines = refl; appends = Appends-nil a };
+    stand = tt;
+    goes = λ hs k. k;
+    fits = λ h. h;
+    passed = [];
+    offset = omega arith;
+    are = sym (append-nil octets);
+  };
+  same = refl;
 }
 
 pub ends : (scope : Scope) (mode : Mode) (octets w : List ℕ) (a b : Option (List ℕ)) (at : ℕ) → w ≡ [] → IsAt scope mode octets a b [] w at
@@ -83,17 +92,20 @@ pub in_part : (scope : Scope) (mode : Mode) (octets w : List ℕ) (a b : Option 
 in_part scope mode octets w a b es at s = record { headings = s.headings; stand = s.stand; written = s.written }
 
 pub closes : (scope : Scope) (mode : Mode) (octets : List ℕ) (a b : Option (List ℕ)) (es fs : List Open) (w v p : List ℕ) (at n : ℕ)
-    → IsAt scope mode octets a b es w at → Goes scope mode es w at fs v (at + n) → (Fits mode es w → Fits mode fs v) → length p ≡ n
-    → w ++ behind_all es ≡ p ++ (v ++ behind_all fs) → IsAt scope mode octets a b fs v (at + n)
+    → (s : IsAt scope mode octets a b es w at) → Goes scope mode es w at fs v (at + n) → (Fits mode es w → Fits mode fs v) → length p ≡ n
+    → w ++ behind_all es ≡ p ++ (v ++ behind_all fs) → Stays scope mode octets a b fs v (at + n) s.headings
 closes scope mode octets a b es fs w v p at n s g m l e = record {
-  headings = s.headings;
-  written = s.written;
-  stand = s.stand;
-  goes = λ hs k. s.goes hs (g hs k);
-  fits = λ h. m (s.fits h);
-  passed = s.passed ++ p;
-  offset = (let o = s.offset in omega (arith, length-append s.passed p, o, l));
-  are = s.are ∙ ap (λ z. s.passed ++ z) e ∙ sym (append_assoc s.passed p (v ++ behind_all fs));
+  next = record {
+    headings = s.headings;
+    written = s.written;
+    stand = s.stand;
+    goes = λ hs k. s.goes hs (g hs k);
+    fits = λ h. m (s.fits h);
+    passed = s.passed ++ p;
+    offset = (let o = s.offset in omega (arith, length-append s.passed p, o, l));
+    are = s.are ∙ ap (λ z. s.passed ++ z) e ∙ sym (append_assoc s.passed p (v ++ behind_all fs));
+  };
+  same = refl;
 }
 
 -- a header stands at the front of the octets, and these are behind it
@@ -124,20 +136,25 @@ module _ (scope : Scope) (mode : Mode) (octets : List ℕ) (a b c : Option (List
   meets : (fs : List Open) (v p : List ℕ) (d : ℕ) → Written scope (the_heading ∷ []) b c
       → ((hs : List Heading) → Completes scope mode fs v d hs → Completes scope mode es w at (the_heading ∷ hs))
       → (Fits mode es w → Fits mode fs v) → d ≡ at + length p
-      → w ++ behind_all es ≡ p ++ (v ++ behind_all fs) → IsAt scope mode octets a c fs v d
+      → w ++ behind_all es ≡ p ++ (v ++ behind_all fs) → Follows scope mode octets a c s.headings at fs v d
   meets fs v p d k g q l e = record {
-    headings = s.headings ++ (the_heading ∷ []);
-    written = written_join scope s.headings (the_heading ∷ []) a b c s.written k;
-    stand = stand_join scope mode octets s.headings (the_heading ∷ []) s.stand (stands, tt);
-    goes = λ hs m. subst (AreListed scope mode octets scope.from 0) (sym (append_assoc s.headings (the_heading ∷ []) hs)) (s.goes (the_heading ∷ hs) (g hs m));
-    fits = λ h. q (s.fits h);
-    passed = s.passed ++ p;
-    offset = (let o = s.offset in omega (arith, length-append s.passed p, o, l));
-    are = s.are ∙ ap (λ z. s.passed ++ z) e ∙ sym (append_assoc s.passed p (v ++ behind_all fs));
+    next = record {
+      headings = s.headings ++ (the_heading ∷ []);
+      written = written_join scope s.headings (the_heading ∷ []) a b c s.written k;
+      stand = stand_join scope mode octets s.headings (the_heading ∷ []) s.stand (stands, tt);
+      goes = λ hs m. subst (AreListed scope mode octets scope.from 0) (sym (append_assoc s.headings (the_heading ∷ []) hs)) (s.goes (the_heading ∷ hs) (g hs m));
+      fits = λ h. q (s.fits h);
+      passed = s.passed ++ p;
+      offset = (let o = s.offset in omega (arith, length-append s.passed p, o, l));
+      are = s.are ∙ ap (λ z. s.passed ++ z) e ∙ sym (append_assoc s.passed p (v ++ behind_all fs));
+    };
+    heading = the_heading;
+    adds = refl;
+    offset = refl;
   }
 
   pub meets_primitive : (n : ℕ) → len ≡ Some n → form ≡ false → n ≤ length r → (scope.inside ≡ true → HoldsNone mode t (take n r)) → Written scope (the_heading ∷ []) b c
-      → IsAt scope mode octets a c es (drop n r) (at + (length w - length r) + n)
+      → Follows scope mode octets a c s.headings at es (drop n r) (at + (length w - length r) + n)
   meets_primitive n is_len is_form fits none k =
       let contents = take n r in
       let size : length contents ≡ n = length-take-le n r fits in
@@ -158,7 +175,7 @@ module _ (scope : Scope) (mode : Mode) (octets : List ℕ) (a b c : Option (List
 
   pub meets_definite : (behind : Bor (List ℕ)) (v : List ℕ) (n : ℕ) → len ≡ Some n → form ≡ true → n ≤ length r → behind.now ≡ drop n r → v ≡ take n r
       → Written scope (the_heading ∷ []) b c
-      → IsAt scope mode octets a c (level.Definite behind ∷ es) v (at + (length w - length r))
+      → Follows scope mode octets a c s.headings at (level.Definite behind ∷ es) v (at + (length w - length r))
   meets_definite behind v n is_len is_form fits is_behind is_v k =
       let size : length v ≡ n = ap length is_v ∙ length-take-le n r fits in
       let split : r ≡ v ++ behind.now = sym (take-append-drop n r) ∙ ap (λ z. z ++ drop n r) (sym is_v) ∙ ap (λ z. v ++ z) (sym is_behind) in
@@ -182,7 +199,7 @@ module _ (scope : Scope) (mode : Mode) (octets : List ℕ) (a b c : Option (List
 
   pub meets_opened : (behind : Bor (List ℕ)) (v : List ℕ) (n : ℕ) → scope.inside ≡ true → len ≡ Some n → form ≡ false → n ≤ length r → behind.now ≡ drop n r
       → Holds mode t (take n r) v → Written scope (the_heading ∷ []) b c
-      → IsAt scope mode octets a c (level.Definite behind ∷ es) v (at + (length w - length r) + (n - length v))
+      → Follows scope mode octets a c s.headings at (level.Definite behind ∷ es) v (at + (length w - length r) + (n - length v))
   meets_opened behind v n is_deep is_len is_form fits is_behind held k =
       let front = held.front in
       let is_v : take n r ≡ front ++ v = held.are in
@@ -214,7 +231,7 @@ module _ (scope : Scope) (mode : Mode) (octets : List ℕ) (a b c : Option (List
   always_constructed true h = refl
   always_constructed false h = let a : false ≡ true = h.allowed in cc
 
-  pub meets_indefinite : len ≡ None → Written scope (the_heading ∷ []) b c → IsAt scope mode octets a c (level.Indefinite ∷ es) r (at + (length w - length r))
+  pub meets_indefinite : len ≡ None → Written scope (the_heading ∷ []) b c → Follows scope mode octets a c s.headings at (level.Indefinite ∷ es) r (at + (length w - length r))
   meets_indefinite is_len k =
       let hl = header_length w f.header r f.are in
       let header : IsHeader mode t form (length_of None) f.header = subst (λ l. IsHeader mode t form l f.header) (ap length_of is_len) f.is_header in

@@ -1,5 +1,5 @@
 -- What listing answers, and what the target then holds.
-use Rattle.std.specs.Prelude.{◌≡◌, ◌⊎◌, ℕ, ◌+◌, ◌≤◌, Bool, List, [], ◌∷◌, ◌++◌, Option, Some, None, length, take}
+use Rattle.std.specs.Prelude.{◌≡◌, ◌≢◌, ◌⊎◌, ℕ, ◌+◌, ◌≤◌, Bool, List, [], ◌∷◌, ◌++◌, Option, Some, None, length, take}
 use Rattle.std.specs.Io.KnownBytes.{Appends, Keeps}
 use Rattle.bcder.specs.declared.mode.Mode.{Mode}
 use Rattle.bcder.specs.x690.Identifier.{Tag}
@@ -87,3 +87,12 @@ pub record HasContents (scope : Scope) (mode : Mode) (octets : List ℕ) (at : �
   pub are : octets ≡ before ++ (header ++ (contents ++ others))
   pub offset : scope.from + length before ≡ at
   pub size : (len ≡ Some (length contents)) ⊎ (len ≡ None)
+
+-- none of these values stands at the offset
+abbrev pub AreElsewhere : ℕ → List Heading → Type 0
+AreElsewhere at [] = Unit {0}
+AreElsewhere at (h ∷ hs) = (h.offset ≢ at) × AreElsewhere at hs
+
+-- the octets are the encodings of values, and none of these or of those inside them stands at the offset
+abbrev pub HasNone : Scope → Mode → List ℕ → ℕ → Type 0
+HasNone scope mode octets at = (hs : List Heading) × AreListed scope mode octets scope.from 0 hs × AreElsewhere at hs

@@ -1,5 +1,5 @@
 -- How far a listing is.
-use Rattle.std.specs.Prelude.{◌≡◌, ℕ, ◌+◌, ◌-◌, true, List, ◌∷◌, ◌++◌, Option, length}
+use Rattle.std.specs.Prelude.{◌≡◌, ℕ, ◌+◌, ◌-◌, true, List, [], ◌∷◌, ◌++◌, Option, length}
 use Rattle.std.specs.Borrow.{Bor}
 use Rattle.bcder.specs.declared.mode.Mode.{Mode}
 use Rattle.bcder.specs.x690.Identifier.{Tag}
@@ -28,10 +28,18 @@ pub record IsAt (scope : Scope) (mode : Mode) (octets : List ℕ) (old new : Opt
 abbrev pub left : List Open → List ℕ → ℕ
 left es w = length w + length (behind_all es) + length es
 
+-- a listing that met these headings has met one more, whose value stands at an offset
+pub record Follows (scope : Scope) (mode : Mode) (octets : List ℕ) (old new : Option (List ℕ)) (hs : List Heading) (at : ℕ) (es : List Open) (w : List ℕ)
+    (end : ℕ) : Type 0 where
+  pub next : IsAt scope mode octets old new es w end
+  pub heading : Heading
+  pub adds : next.headings ≡ hs ++ (heading ∷ [])
+  pub offset : heading.offset ≡ at
+
 -- a step goes on from wherever a listing is
 abbrev pub Meets : Scope → Mode → List Open → List ℕ → ℕ → Option (List ℕ) → List Open → List ℕ → ℕ → Option (List ℕ) → Type 0
-Meets scope mode es w at b fs v behind c = (octets : List ℕ) (a : Option (List ℕ)) → IsAt scope mode octets a b es w at
-    → IsAt scope mode octets a c fs v behind
+Meets scope mode es w at b fs v behind c = (octets : List ℕ) (a : Option (List ℕ)) (s : IsAt scope mode octets a b es w at)
+    → Follows scope mode octets a c s.headings at fs v behind
 
 -- a step ends it with an error
 abbrev pub Stops : Scope → Mode → List Open → List ℕ → ℕ → Option (List ℕ) → Option (List ℕ) → ListError → Type 0

@@ -1,10 +1,10 @@
 //! Lists the values of an encoding.
-ghost use Rattle.std.specs.Prelude.{◌≡◌, ◌≢◌, ◌⊎◌, ℕ, ◌+◌, ◌<◌, ◌^◌};
-ghost use Rattle.std.specs.Prelude.{List, [], ◌∷◌, ◌++◌, length, take, Some};
+ghost use Rattle.std.specs.Prelude.{◌≡◌, ◌≢◌, ◌⊎◌, ℕ, ◌+◌, ◌<◌, ◌≤◌, ◌^◌};
+ghost use Rattle.std.specs.Prelude.{List, [], ◌∷◌, ◌++◌, length, take, Some, None};
 ghost use Rattle.std.specs.Borrow.{Bor};
-ghost use Rattle.std.specs.Prelude.{IfOk, OnOk, IfErr, IfSome, string_bytes};
+ghost use Rattle.std.specs.Prelude.{IfOk, OnOk, IfErr, IfSome, IfNone, MatchOption, string_bytes};
 ghost use Rattle.cli.specs.Shown.{IsShown};
-ghost use Rattle.berdump.specs.Answers.{HasContents, IsUnlisted, IsUnwritten, Listed, Written};
+ghost use Rattle.berdump.specs.Answers.{HasContents, HasNone, IsUnlisted, IsUnwritten, Listed, Written};
 ghost use Rattle.berdump.specs.declared.list.Reason.TheVariants.{Contents, TooLong};
 ghost use Rattle.berdump.specs.Lines.{IsLine};
 ghost use Rattle.berdump.specs.Opened.{GoesOn};
@@ -154,11 +154,14 @@ fn write_line<W: io::Write>(
     }
 }
 
-/// The octets that are left of the innermost open value, and the number of octets before them.
+/// Where a listing is behind the line of a value: the octets that are left of the innermost open
+/// value, the number of octets before them, and the contents octets of the value, or `None` if
+/// end-of-contents octets end them.
 #[derive(Clone, Copy)]
 struct Place<'a> {
     rest: &'a [u8],
     at: usize,
+    contents: Option<&'a [u8]>,
 }
 
 /// Opens a value, and writes its line.
@@ -201,6 +204,7 @@ fn list_primitive<'a, W: io::Write>(
     ensures passes { IfOk result
         (λ p. PassesContents scope mode heading.tag contents.now behind.now at
         opened.old.items opened.new.items p.rest.now p.at) }
+    ensures contents { IfOk result (λ p. p.contents ≡ Some contents.entry) }
     ensures written { OnOk result
         (Written scope (heading ∷ []) (W.contents target.old) (W.contents target.new)) }
     ensures unwritten { IfErr result
@@ -225,6 +229,7 @@ fn list_primitive<'a, W: io::Write>(
         return Ok(Place {
             rest: behind,
             at: at + contents.len(),
+            contents: Some(contents),
         });
     };
     let at = at + (contents.len() - rest.len());
@@ -232,7 +237,11 @@ fn list_primitive<'a, W: io::Write>(
     if let Err(error) = open_value(alloc, mode, scope, heading, contents, value, opened, target) {
         return Err(error);
     }
-    Ok(Place { rest, at })
+    Ok(Place {
+        rest,
+        at,
+        contents: Some(contents),
+    })
 }
 
 /// Returns why octets begin with no header, where they don't end a value.
@@ -280,6 +289,12 @@ fn list_value<'a, W: io::Write>(
         opened.new.items p.rest.now p.at (W.contents target.new)) }
     ensures less { IfOk result
         (λ p. left opened.new.items p.rest.now < left opened.old.items rest.now) }
+    ensures contents { IfOk result (λ p. MatchOption p.contents
+        (IsIndefiniteAt mode rest.now p.rest.now)
+        (λ contents. IsDefiniteAt mode rest.now contents.now)) }
+    ensures opens { IfOk result (λ p. MatchOption p.contents
+        (length opened.old.items < length opened.new.items)
+        (λ _. length opened.old.items ≤ length opened.new.items)) }
     ensures stops { IfErr result
         (Stops scope mode opened.old.items rest.now at (W.contents target.old)
         (W.contents target.new)) }
@@ -305,6 +320,7 @@ fn list_value<'a, W: io::Write>(
         return Ok(Place {
             rest: front.rest,
             at: inner,
+            contents: None,
         });
     };
     if front.rest.len() < len {
@@ -321,6 +337,7 @@ fn list_value<'a, W: io::Write>(
         return Ok(Place {
             rest: contents,
             at: inner,
+            contents: Some(contents),
         });
     }
     list_primitive(
@@ -374,43 +391,14 @@ pub fn list<W: io::Write>(
     }
 }
 
-/// Returns the contents octets of the value of definite length that octets begin with, if they are
-/// at the wanted offset and all there.
-fn definite_here(mode: Mode, octets: &[u8], at: usize, wanted: usize) -> Option<&[u8]>
+/// Returns the contents octets of a value at an offset, if that is wanted and its length is
+/// definite.
+fn definite_here(contents: Option<&[u8]>, at: usize, wanted: usize) -> Option<&[u8]>
     ensures here { IfSome result (λ _. at ≡ wanted) }
-    ensures contents { IfSome result (λ contents. IsDefiniteAt mode octets.now contents.now) }
+    ensures contents { IfSome result (λ r. contents.entry ≡ Some r) }
+    ensures none { IfNone result (at ≡ wanted → contents.entry ≡ None) }
 {
-    if at != wanted {
-        return None;
-    }
-    let Some(front) = front_at(mode, octets) else {
-        return None;
-    };
-    let Some(len) = front.len else {
-        return None;
-    };
-    if front.rest.len() < len {
-        return None;
-    }
-    Some(front.rest.split_at(len).0)
-}
-
-/// Returns what follows the header of the value of indefinite length that octets begin with, if
-/// they are at the wanted offset.
-fn indefinite_here(mode: Mode, octets: &[u8], at: usize, wanted: usize) -> Option<&[u8]>
-    ensures here { IfSome result (λ _. at ≡ wanted) }
-    ensures behind { IfSome result (λ behind. IsIndefiniteAt mode octets.now behind.now) }
-{
-    if at != wanted {
-        return None;
-    }
-    let Some(front) = front_at(mode, octets) else {
-        return None;
-    };
-    if front.len.is_some() {
-        return None;
-    }
-    Some(front.rest)
+    if at == wanted { contents } else { None }
 }
 
 /// A value that was sought, and is open: the number of values around it, and what follows its
@@ -421,32 +409,33 @@ struct Begun<'a> {
     behind: Option<&'a [u8]>,
 }
 
-/// Returns the value that is sought, if it begins here, or the one that has begun.
+/// Returns the value that is sought, if it is the one at an offset, or the one that has begun.
 fn begun_at<'a>(
     begun: Begun<'a>,
-    mode: Mode,
-    octets: &'a [u8],
+    depth: usize,
+    behind: &'a [u8],
     at: usize,
     wanted: usize,
-    depth: usize,
 ) -> Begun<'a>
-    ensures { IfSome result.behind (λ r. (begun.entry.behind ≡ Some r)
-        ⊎ (at ≡ wanted) × IsIndefiniteAt mode octets.now r.now) }
+    ensures { (at ≡ wanted) × (result.depth ≡ depth) × (result.behind ≡ Some behind.entry)
+        ⊎ (at ≢ wanted) × (result.depth ≡ begun.entry.depth)
+        × (result.behind ≡ begun.entry.behind) }
 {
-    match indefinite_here(mode, octets, at, wanted) {
-        Some(behind) => Begun {
+    if at == wanted {
+        return Begun {
             depth,
             behind: Some(behind),
-        },
-        None => begun,
+        };
     }
+    begun
 }
 
 /// Returns the contents octets of the value that has begun, if it ends where these octets begin,
 /// in this number of values.
 fn ended_at<'a>(begun: Begun<'a>, depth: usize, rest: &[u8]) -> Option<&'a [u8]>
-    ensures { IfSome result (λ c. (r : Bor (List ℕ)) × (n : ℕ)
+    ensures some { IfSome result (λ c. (r : Bor (List ℕ)) × (n : ℕ)
         × (begun.entry.behind ≡ Some r) × (c.now ≡ take n r.now)) }
+    ensures none { IfNone result (begun.entry.behind ≡ None ⊎ begun.entry.depth ≢ depth) }
 {
     let Some(behind) = begun.behind else {
         return None;
@@ -459,7 +448,7 @@ fn ended_at<'a>(begun: Begun<'a>, depth: usize, rest: &[u8]) -> Option<&'a [u8]>
 }
 
 /// Returns the contents octets of the value whose header is at an offset, or `None` if no value of
-/// the scope is there. The lines of the values up to there are written too.
+/// the scope is there. The lines of the values up to and with it are written too.
 ///
 /// # Errors
 ///
@@ -473,8 +462,10 @@ pub fn find<'a, W: io::Write>(
     lines: &mut W,
 ) -> Result<Option<&'a [u8]>, ListError>
     requires room { scope.from + length octets.now < 2 ^ 64 }
-    ensures { IfOk result (λ found. IfSome found
+    ensures found { IfOk result (λ found. IfSome found
         (λ contents. HasContents scope mode octets.now wanted contents.now)) }
+    ensures none { IfOk result
+        (λ found. IfNone found (HasNone scope mode octets.now wanted)) }
 {
     let mut opened = VecDeque::new(alloc);
     let mut rest = octets;
@@ -495,16 +486,16 @@ pub fn find<'a, W: io::Write>(
         if rest.is_empty() && opened.is_empty() {
             return Ok(None);
         }
-        if let Some(contents) = definite_here(mode, rest, at, wanted) {
+        let depth = opened.len();
+        let place = match list_value(alloc, mode, scope, rest, at, &mut opened, lines) {
+            Ok(place) => place,
+            Err(error) => return Err(error),
+        };
+        if let Some(contents) = definite_here(place.contents, at, wanted) {
             return Ok(Some(contents));
         }
-        begun = begun_at(begun, mode, rest, at, wanted, opened.len());
-        match list_value(alloc, mode, scope, rest, at, &mut opened, lines) {
-            Ok(place) => {
-                rest = place.rest;
-                at = place.at;
-            }
-            Err(error) => return Err(error),
-        }
+        begun = begun_at(begun, depth, place.rest, at, wanted);
+        rest = place.rest;
+        at = place.at;
     }
 }
