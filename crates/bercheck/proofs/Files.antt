@@ -1,14 +1,14 @@
 -- Blocks and files, one behind the other.
-use Rattle.std.proofs.Common.{◌≡◌, ◌≢◌, ◌≤◌, ◌⊎◌, inl, inr, ℕ, ◌-◌, List, [], ◌∷◌, length, take, drop, get_or, Result, Ok, Err, sym, ap, subst, ◌∙◌, arith}
+use Rattle.std.proofs.Common.{◌≡◌, ◌≢◌, ◌≤◌, ◌⊎◌, inl, inr, ℕ, ◌-◌, List, [], ◌∷◌, length, take, drop, get_or, Result, Ok, sym, ap, subst, ◌∙◌, arith}
 use Rattle.std.proofs.lemmas.List.{take_all}
 use Rattle.std.specs.Prelude.{MatchResult}
 use Rattle.cli.specs.declared.pem.Block.{Block}
 use Rattle.cli.specs.Pem.{HasNoBlock, IsAmong, IsNext}
 use Rattle.cli.specs.declared.files.Input.{Input}
 use Rattle.cli.specs.declared.status.Status.{Status}
-use Rattle.cli.specs.declared.status.Status.TheVariants.{Done, Refused, Failed}
+use Rattle.cli.specs.declared.status.Status.TheVariants.{Refused}
 use Rattle.bercheck.specs.declared.request.Request.{Request}
-use Rattle.bercheck.specs.Runs.{AreBlocksRight, AreFilesRight, HasBrokenBlock, HasBrokenFile, IsBlockBroken, IsBlockRight, IsFileBroken, IsFileRight, IsInputBroken, IsInputRight}
+use Rattle.bercheck.specs.Runs.{AreBlocksRight, AreFilesRight, HasBrokenBlock, HasBrokenFile, IsBlockBroken, IsBlockRight, IsFileBroken, IsFileRight}
 
 pub not_empty : {A : Type 0} (v w : List A) → 1 ≤ length v → length v ≤ length w → w ≢ []
 not_empty v w h k e = absurd (omega (arith, h, subst (λ z. length v ≤ length z) e k))

@@ -1,4 +1,4 @@
-use Rattle.std.proofs.Common.{◌≡◌, ◌≢◌, inl, rules}
+use Rattle.std.proofs.Common.{◌≢◌, inl, rules}
 use Rattle.cli.specs.declared.pem.BlockError.TheVariants.{NoMemory}
 use Rattle.bercheck.proofs.Going.{failed_told, goes_alone, refused_told}
 use Rattle.bercheck.proofs.run.run_block.Goals as goal

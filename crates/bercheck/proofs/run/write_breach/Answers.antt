@@ -1,4 +1,4 @@
-use Rattle.std.proofs.Common.{string_bytes, refl, subst, sym}
+use Rattle.std.proofs.Common.{refl, subst, sym}
 use Rattle.cli.specs.Shown.{IsLine}
 use Rattle.cli.specs.declared.status.Status.TheVariants.{Refused}
 use Rattle.bercheck.proofs.Going.{goes_alone, goes_cut, goes_line, failed_told, refused_told}

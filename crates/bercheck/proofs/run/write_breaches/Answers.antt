@@ -1,4 +1,4 @@
-use Rattle.std.proofs.Common.{◌≡◌, ◌≤◌, length, rules, arith}
+use Rattle.std.proofs.Common.{◌≡◌, rules, arith}
 use Rattle.std.proofs.lemmas.Grind.{common_steps}
 use Rattle.cli.specs.declared.status.Status.TheVariants.{Failed}
 use Rattle.bercheck.proofs.Going.{goes_fails, goes_then}

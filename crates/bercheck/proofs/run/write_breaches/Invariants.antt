@@ -1,6 +1,6 @@
 -- What was written for the breaches that were passed.
 use Rattle.std.specs.Prelude.{◌≡◌, ◌≢◌, ◌≤◌, [], length}
-use Rattle.cli.specs.declared.status.Status.TheVariants.{Done, Failed}
+use Rattle.cli.specs.declared.status.Status.TheVariants.{Done}
 use Rattle.bercheck.specs.Tells.{Goes}
 use Rattle.bercheck.proofs.run.write_breaches.Given as goal
 

@@ -1,4 +1,4 @@
-use Rattle.std.proofs.Common.{[], subst, sym, rules}
+use Rattle.std.proofs.Common.{[], subst, sym}
 use Rattle.std.proofs.KnownBytes.{Keeps-refl}
 use Rattle.cli.specs.Pem.{HasBlocks}
 use Rattle.berconv.specs.Ends.{Ends, AppendsConversion, AppendsConversions}

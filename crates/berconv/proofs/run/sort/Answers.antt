@@ -1,4 +1,4 @@
-use Rattle.std.proofs.Common.{◌≡◌, ◌⊎◌, true, false, inl, inr, rules}
+use Rattle.std.proofs.Common.{◌≡◌, ◌⊎◌, true, false, rules}
 use Rattle.encodings.specs.Status.{done, no_order}
 use Rattle.berconv.proofs.Sorted.{not_wanted, was_sorted}
 use Rattle.berconv.proofs.run.sort.Goals as goal

@@ -1,4 +1,4 @@
-use Rattle.std.proofs.Common.{◌≡◌, ◌≢◌, refl, rules, arith}
+use Rattle.std.proofs.Common.{◌≢◌, refl, rules, arith}
 use Rattle.std.proofs.lemmas.Grind.{common_steps}
 use Rattle.std.proofs.KnownBytes.{Keeps-trans}
 use Rattle.cli.specs.declared.status.Status.TheVariants.{Failed}
