@@ -2,7 +2,7 @@
 use Rattle.std.proofs.Common.{◌≡◌, Bool, true, false, ◌⊎◌, inl, inr}
 use Rattle.std.specs.Prelude.{IsTrue, ◌↔◌}
 
-not_both : (b : Bool) → IsTrue b → b ≡ false → ⊥
+pub not_both : (b : Bool) → IsTrue b → b ≡ false → ⊥
 not_both true t e = absurd cc
 not_both false t e = absurd cc
 

@@ -1,7 +1,9 @@
 -- How the values around the octets to come are followed.
 use Rattle.std.proofs.Common.{◌≡◌, ◌≢◌, ◌⊎◌, ℕ, ◌+◌, ◌<◌, Bool, true, false, List, [], ◌∷◌, ◌++◌, length, Option, Some, None}
-use Rattle.std.proofs.Common.{inl, inr, refl, sym, ap, subst, ◌∙◌, append_assoc, append-nil, arith}
+use Rattle.std.proofs.Common.{zero, suc, inl, inr, refl, sym, ap, subst, ◌∙◌, append_assoc, append-nil, arith}
+use Rattle.std.specs.Prelude.{All, is_some, option_map}
 use Rattle.std.proofs.lemmas.List.{length-append}
+use Rattle.std.proofs.lemmas.List.Elements.{All-append}
 use denote.Ref.{Bor}
 use Rattle.bcder.specs.declared.mode.Mode.{Mode}
 use Rattle.bcder.specs.declared.mode.Mode.TheVariants.{Ber}
@@ -19,20 +21,25 @@ use Rattle.encodings.specs.Pieces.{Piece, begins}
 use Rattle.encodings.specs.Sets.{place, is_set, IsNotAfter, MayPrecede}
 use Rattle.encodings.specs.Sorting.{behind_of, open_length}
 use Rattle.encodings.proofs.Walking.{must_be}
-use Rattle.rules.specs.Around.{AddsBefore, AreAround, Follows, IsLast, KeepsOrder, KeepsOrderIn, TellsOrder, nothing, told}
-use Rattle.rules.specs.Around.{with_last}
+use Rattle.rules.specs.Around.{Adds, AddsBefore, AreAround, BreaksFit, Fits, Follows, Inside, IsLast, KeepsOrder, Leaves, TellsEnd, TellsFit}
+use Rattle.rules.specs.Around.{fits, misfits, whole, in_vain, element_outline, ended_outline, last_unused, met_meant, with_last}
+use Rattle.rules.specs.Around as around
 use Rattle.rules.specs.Begun.{BeginsValue, of_definite, of_indefinite}
-use Rattle.rules.specs.Broken.{Breaks, Holds, out_of_order}
+use Rattle.rules.specs.Broken.{Breaks, BreaksPlace, Holds}
+use Rattle.rules.specs.Broken as broken
 use Rattle.rules.specs.Comes.{Comes}
 use Rattle.rules.specs.Passes.{IsMet, of_value, of_beginning, of_end}
-use Rattle.rules.specs.Placed.{Frame, added, step, last_of, MayCome, MayComeIn, IsPlaced}
+use Rattle.rules.specs.Kinds.{kind_of}
+use Rattle.rules.specs.Placed.{Frame, Outline, added, step, are_several, last_of, outline, unused_of_last, InOrder, MayCome, MayComeIn, MayEnd, IsPlaced}
+use Rattle.rules.specs.Placed.{HasSegmentTag, IsBehindWhole, IsCut}
 use Rattle.rules.specs.declared.around.Element.{Element}
 use Rattle.rules.specs.declared.around.Enclosing.{Enclosing}
 use Rattle.rules.specs.declared.around.Met.{Met}
 use Rattle.rules.specs.declared.around.Met.TheVariants as m
 use Rattle.rules.specs.declared.rule.Breach.{Breach}
+use Rattle.rules.specs.declared.rule.Rule.{Rule}
 use Rattle.rules.specs.declared.rule.Rule.TheVariants as r
-use Rattle.rules.proofs.Placing.{last_added}
+use Rattle.rules.proofs.Placing.{last_added, several_added, unused_of_none, unused_of_some}
 
 first_same : (o p : Open) (os ps : List Open) → o ∷ os ≡ p ∷ ps → o ≡ p
 first_same o p os ps e = cc
@@ -40,45 +47,102 @@ first_same o p os ps e = cc
 others_same : (o p : Open) (os ps : List Open) → o ∷ os ≡ p ∷ ps → os ≡ ps
 others_same o p os ps e = cc
 
--- ---- the order in memory
+All-one : {X : Type 0} (P : X → Type 0) (x : X) → P x → All P (x ∷ [])
+All-one P x p zero d l = p
+All-one P x p (suc k) d l = absurd (omega arith)
 
-module _ (mode : Mode) (u : Tree) (e : Element) (p : e.place ≡ place (tag_of u)) (d : IsEncoding mode u e.octets.now) where
+-- ---- what fits in memory
+
+-- the place in the order of tags of what has the outline of a value
+place_same : (e : Element) (u : Tree) → element_outline e ≡ outline u → e.place ≡ place (tag_of u)
+place_same e u p = ap (λ (o : Outline). o.place) p
+
+module _ (mode : Mode) where
+  some_last : (last : Option Element) (ts : Trees) → IsLast mode last ts → is_some last ≡ is_some (last_of ts)
+  some_last None ts i = sym (ap is_some i)
+  some_last (Some e) ts i = sym (ap is_some i.1)
+
+  last_outline : (last : Option Element) (ts : Trees) → IsLast mode last ts → option_map element_outline last ≡ option_map outline (last_of ts)
+  last_outline None ts i = sym (ap (option_map outline) i)
+  last_outline (Some e) ts i = ap (λ (o : Outline). Some o) i.2 ∙ sym (ap (option_map outline) i.1)
+
+  unused_same : (last : Option Element) (ts : Trees) → IsLast mode last ts → last_unused last ≡ unused_of_last ts
+  unused_same None ts i = sym (unused_of_none ts i)
+  unused_same (Some e) ts i = ap (λ (o : Outline). o.unused) i.2 ∙ sym (unused_of_some ts i.0 i.1)
+
+module _ (mode : Mode) (u : Tree) (e : Element) (p : element_outline e ≡ outline u) (d : IsEncoding mode u e.octets.now) where
   -- of two values, by their octets
-  precedes : (w : Tree) (k : Element) → k.place ≡ place (tag_of w) → IsEncoding mode w k.octets.now → mode ≢ Ber
+  precedes : (w : Tree) (k : Element) → element_outline k ≡ outline w → IsEncoding mode w k.octets.now → mode ≢ Ber
       → (k.place < e.place) ⊎ ((k.place ≡ e.place) × IsNotAfter k.octets.now e.octets.now) → MayPrecede mode w u
   precedes w k q c n h = elim h [
-    | inl l ↦ inl (omega (arith, p, q, l))
+    | inl l ↦ inl (omega (arith, place_same e u p, place_same k w q, l))
     | inr o ↦ inr (
-      sym q ∙ o.0 ∙ p,
+      sym (place_same k w q) ∙ o.0 ∙ place_same e u p,
       λ a b x y.
           subst (λ z. IsNotAfter z b) (one_spelling mode n w k.octets.now a c x)
           (subst (λ z. IsNotAfter k.octets.now z) (one_spelling mode n u e.octets.now b d y) o.1),
     )
   ]
 
-  preceded : (w : Tree) (k : Element) → k.place ≡ place (tag_of w) → IsEncoding mode w k.octets.now → MayPrecede mode w u
+  preceded : (w : Tree) (k : Element) → element_outline k ≡ outline w → IsEncoding mode w k.octets.now → MayPrecede mode w u
       → (k.place < e.place) ⊎ ((k.place ≡ e.place) × IsNotAfter k.octets.now e.octets.now)
   preceded w k q c h = elim h [
-    | inl l ↦ inl (omega (arith, p, q, l))
-    | inr o ↦ inr (q ∙ o.0 ∙ sym p, o.1 k.octets.now e.octets.now c d)
+    | inl l ↦ inl (omega (arith, place_same e u p, place_same k w q, l))
+    | inr o ↦ inr (place_same k w q ∙ o.0 ∙ sym (place_same e u p), o.1 k.octets.now e.octets.now c d)
   ]
 
   module _ (t : Tag) (sorts : Bool) (s : sorts ≡ is_set t) where
-    may_come : (last : Option Element) (ts : Trees) → IsLast mode last ts → KeepsOrder mode sorts last e → MayCome mode t (last_of ts) u
-    may_come None ts i h = subst (λ z. MayCome mode t z u) (sym i) tt
-    may_come (Some k) ts i h =
-        subst (λ z. MayCome mode t z u) (sym i.1) (λ n b. precedes i.0 k i.2 i.3 n (h n (s ∙ b)))
+    in_order : (last : Option Element) (ts : Trees) → IsLast mode last ts → KeepsOrder mode sorts last e → InOrder mode t (last_of ts) u
+    in_order None ts i h = subst (λ z. InOrder mode t z u) (sym i) tt
+    in_order (Some k) ts i h =
+        subst (λ z. InOrder mode t z u) (sym i.1) (λ n b. precedes i.0 k i.2 i.3 n (h n (s ∙ b)))
 
-    keeps_order : (last : Option Element) (ts : Trees) → IsLast mode last ts → MayCome mode t (last_of ts) u → KeepsOrder mode sorts last e
+    keeps_order : (last : Option Element) (ts : Trees) → IsLast mode last ts → InOrder mode t (last_of ts) u → KeepsOrder mode sorts last e
     keeps_order None ts i h = tt
-    keeps_order (Some k) ts i h = λ n b. preceded i.0 k i.2 i.3 (subst (λ z. MayCome mode t z u) i.1 h n (sym s ∙ b))
+    keeps_order (Some k) ts i h = λ n b. preceded i.0 k i.2 i.3 (subst (λ z. InOrder mode t z u) i.1 h n (sym s ∙ b))
+
+  module _ (t : Tag) (v : Enclosing) (s : v.sorts ≡ is_set t) (k : v.kind ≡ kind_of t) (ts : Trees) (i : IsLast mode v.last ts) where
+    tag_same : HasSegmentTag v.kind (element_outline e) ≡ HasSegmentTag (kind_of t) (outline u)
+    tag_same = ap (λ z. HasSegmentTag z (element_outline e)) k ∙ ap (HasSegmentTag (kind_of t)) p
+
+    behind_same : IsBehindWhole v.kind (option_map element_outline v.last) ≡ IsBehindWhole (kind_of t) (option_map outline (last_of ts))
+    behind_same =
+        ap (λ z. IsBehindWhole z (option_map element_outline v.last)) k ∙ ap (IsBehindWhole (kind_of t)) (last_outline mode v.last ts i)
+
+    cut_same : IsCut mode v.kind (option_map element_outline v.last) (element_outline e)
+        ≡ IsCut mode (kind_of t) (option_map outline (last_of ts)) (outline u)
+    cut_same =
+        ap (λ z. IsCut mode z (option_map element_outline v.last) (element_outline e)) k
+        ∙ ap (λ z. IsCut mode (kind_of t) z (element_outline e)) (last_outline mode v.last ts i)
+        ∙ ap (IsCut mode (kind_of t) (option_map outline (last_of ts))) p
+
+    may_come : Fits mode v e → MayCome mode t (last_of ts) u
+    may_come f = record {
+      order = in_order t v.sorts s v.last ts i f.order;
+      tag = subst (λ z. z) tag_same f.tag;
+      unused = subst (λ z. z) behind_same f.unused;
+      cut = subst (λ z. z) cut_same f.cut;
+    }
+
+    breaks_place : (rule : Rule) → BreaksFit mode v e rule → BreaksPlace mode t (last_of ts) u rule
+    breaks_place rule (around.out_of_order g n) = broken.out_of_order g (λ h. n (keeps_order t v.sorts s v.last ts i h))
+    breaks_place rule (around.other_tag g n) = broken.other_tag (g ∙ ap r.SegmentTag k) (λ h. n (subst (λ z. z) (sym tag_same) h))
+    breaks_place rule (around.behind_unused g n) = broken.behind_unused g (λ h. n (subst (λ z. z) (sym behind_same) h))
+    breaks_place rule (around.other_size g n) = broken.other_size g (λ h. n (subst (λ z. z) (sym cut_same) h))
+
+not_come : (mode : Mode) (t : Tag) (last : Option Tree) (u : Tree) (rule : Rule) → BreaksPlace mode t last u rule → MayCome mode t last u → ⊥
+not_come mode t last u rule (broken.out_of_order g n) m = n m.order
+not_come mode t last u rule (broken.other_tag g n) m = n m.tag
+not_come mode t last u rule (broken.behind_unused g n) m = n m.unused
+not_come mode t last u rule (broken.other_size g n) m = n m.cut
 
 -- ---- one more value
 
 -- what was told of the place of a value, if it has one
 pub data TellsPlace (mode : Mode) (contents : Bool) (octets : List ℕ) (P : Type 0) (old new : List Breach) : Type 0 where
   in_place : new ≡ old → (contents ≡ true → P) → TellsPlace mode contents octets P old new
-  misplaced : (b : Breach) → new ≡ old ++ b ∷ [] → Holds mode octets b → contents ≡ true → (P → ⊥) → TellsPlace mode contents octets P old new
+  misplaced : (bs : List Breach) → new ≡ old ++ bs → 0 < length bs → All (Holds mode octets) bs → contents ≡ true → (P → ⊥)
+      → TellsPlace mode contents octets P old new
 
 pub record Followed (mode : Mode) (contents : Bool) (octets : List ℕ) (es : List Enclosing) (fs : List Frame) (os : List Open) (y : List ℕ)
     (then : ℕ) (P : Type 0) (old new : List Breach) : Type 0 where
@@ -92,7 +156,7 @@ module _ (mode : Mode) (contents : Bool) (octets : List ℕ) where
   begun x t h c None d is = of_indefinite h d refl (is ∙ ap (λ z. h ++ z) (append-nil c)) refl
 
   module _ (es : List Enclosing) (f : Frame) (fs : List Frame) (os : List Open) (x a y : List ℕ) (at then : ℕ) (u : Tree) (e : Element)
-      (i : AreAround mode octets es (f ∷ fs) os x at) (is : x ≡ a ++ y) (d : IsEncoding mode u a) (pe : e.place ≡ place (tag_of u))
+      (i : AreAround mode octets es (f ∷ fs) os x at) (is : x ≡ a ++ y) (d : IsEncoding mode u a) (pe : element_outline e ≡ outline u)
       (oe : e.octets.now ≡ a) (n : then ≡ at + length a) where
     same : i.old ++ x ≡ (i.old ++ a) ++ y
     same = ap (λ z. i.old ++ z) is ∙ sym (append_assoc i.old a y)
@@ -100,16 +164,18 @@ module _ (mode : Mode) (contents : Bool) (octets : List ℕ) where
     de : IsEncoding mode u e.octets.now
     de = subst (IsEncoding mode u) (sym oe) d
 
-    inside : (gs : List Enclosing) → gs ≡ with_last e es → AreAround mode octets gs (added u (f ∷ fs)) os y then
+    inside : (gs : List Enclosing) → gs ≡ with_last e i.value ∷ i.values → AreAround mode octets gs (added u (f ∷ fs)) os y then
     inside gs g = record {
-      value = record { place = i.value.place; sorts = i.value.sorts; start = i.value.start; last = Some e };
+      value = with_last e i.value;
       values = i.values;
-      are = g ∙ ap (with_last e) i.are;
+      are = g;
       ends_by = i.ends_by;
       opens = i.opens;
       opened = i.opened;
       place_is = i.place_is;
       sorts = i.sorts;
+      kind_is = i.kind_is;
+      several = some_last mode i.value.last f.trees i.last ∙ sym (several_added f.trees u);
       last = (u, last_added f.trees u, pe, de);
       old = i.old ++ a;
       encode = AreEncodings-join mode f.trees (u ∷ₜ no_trees) i.old a i.encode (AreEncodings-one mode u a d);
@@ -122,18 +188,16 @@ module _ (mode : Mode) (contents : Bool) (octets : List ℕ) where
       around = i.around;
     }
 
-    tells : (old new : List Breach) → TellsOrder mode contents es e then old new → TellsPlace mode contents octets (MayComeIn mode (f ∷ fs) u) old new
-    tells old new (nothing q k) =
-        in_place q (λ c. may_come mode u e pe de f.tag i.value.sorts i.sorts i.value.last f.trees i.last
-        (subst (λ z. KeepsOrderIn mode z e) i.are (k c)))
-    tells old new (told q c k) =
-        let no : MayCome mode f.tag (last_of f.trees) u → ⊥ =
-        λ h. k (subst (λ z. KeepsOrderIn mode z e) (sym i.are) (keeps_order mode u e pe de f.tag i.value.sorts i.sorts i.value.last f.trees i.last h)) in
+    tells : (old new : List Breach) → TellsFit mode contents i.value e then old new → TellsPlace mode contents octets (MayComeIn mode (f ∷ fs) u) old new
+    tells old new (fits q k) = in_place q (λ c. may_come mode u e pe de f.tag i.value i.sorts i.kind_is f.trees i.last (k c))
+    tells old new (misfits rule q c k) =
+        let no : BreaksPlace mode f.tag (last_of f.trees) u rule =
+        breaks_place mode u e pe de f.tag i.value i.sorts i.kind_is f.trees i.last rule k in
         let c_is : i.old ++ x ≡ i.old ++ (a ++ y) = ap (λ z. i.old ++ z) is in
-        let b : Breaks mode i.opens i.value.start.now r.OutOfOrder (length i.header + length i.old) =
-        out_of_order f.tag (length i.header) (i.old ++ x) i.ends_by f.trees u i.old a y refl
+        let b : Breaks mode i.opens i.value.start.now rule (length i.header + length i.old) =
+        broken.out_of_place f.tag (length i.header) (i.old ++ x) i.ends_by f.trees u i.old a y
         (begun i.value.start.now f.tag i.header (i.old ++ x) i.ends_by i.is_header i.start) i.encode d c_is no refl in
-        misplaced _ q (record {
+        misplaced _ q (omega arith) (All-one (Holds mode octets) _ (record {
           opened = i.opens;
           rest = i.value.start.now;
           from = i.from;
@@ -141,25 +205,23 @@ module _ (mode : Mode) (contents : Bool) (octets : List ℕ) where
           comes = i.comes;
           breaks = b;
           at = omega (arith, n, i.place_at, ap length oe);
-        }) c no
+        })) c (not_come mode f.tag (last_of f.trees) u rule no)
 
   -- a value was passed in the innermost open one
   pub one_more : (es : List Enclosing) (fs : List Frame) (os : List Open) (x a y : List ℕ) (at then : ℕ) (u : Tree) (gs : List Enclosing)
       (old new : List Breach) → AreAround mode octets es fs os x at → x ≡ a ++ y → IsEncoding mode u a → then ≡ at + length a
-      → AddsBefore mode contents es (place (tag_of u)) x y then old gs new
+      → AddsBefore mode contents es (outline u) x y then old gs new
       → Followed mode contents octets gs (added u fs) os y then (MayComeIn mode fs u) old new
-  one_more es [] os x a y at then u gs old new i is d n h = record {
-    around = (h.adds.are ∙ ap (with_last h.element) i.0, i.1);
-    tells = outside h.adds.tells;
-  }
-    where
-      outside : TellsOrder mode contents es h.element then old new → TellsPlace mode contents octets (MayComeIn mode [] u) old new
-      outside (nothing q k) = in_place q (λ c. tt)
-      outside (told q c k) = absurd (k (subst (λ z. KeepsOrderIn mode z h.element) (sym i.0) tt))
-  one_more es (f ∷ fs) os x a y at then u gs old new i is d n h = record {
-    around = inside es f fs os x a y at then u h.element i is d h.place_is (h.octets_are a is) n gs h.adds.are;
-    tells = tells es f fs os x a y at then u h.element i is d h.place_is (h.octets_are a is) n old new h.adds.tells;
-  }
+  one_more es [] os x a y at then u gs old new i is d n h =
+      let e : Adds mode contents [] h.element then old gs new = subst (λ z. Adds mode contents z h.element then old gs new) i.0 h.adds in
+      record { around = (e.0, i.1); tells = in_place e.1 (λ c. tt) }
+  one_more es (f ∷ fs) os x a y at then u gs old new i is d n h =
+      let e : Adds mode contents (i.value ∷ i.values) h.element then old gs new =
+      subst (λ z. Adds mode contents z h.element then old gs new) i.are h.adds in
+      record {
+        around = inside es f fs os x a y at then u h.element i is d h.outline_is (h.octets_are a is) n gs e.0;
+        tells = tells es f fs os x a y at then u h.element i is d h.outline_is (h.octets_are a is) n old new e.1;
+      }
 
   -- ---- steps
 
@@ -167,19 +229,22 @@ module _ (mode : Mode) (contents : Bool) (octets : List ℕ) where
       → (a : List ℕ) × (x ≡ a ++ y) × IsEncoding mode (primitive t c) a × (length a ≡ size + length c)
   primitive_passed x y t size c o (of_definite h b d e is s) =
       let by : b ≡ y = some_inj _ _ (sym e) in
-      let whole : x ≡ (h ++ c) ++ y = is ∙ ap (λ w. h ++ (c ++ w)) by ∙ sym (append_assoc h c y) in
-      (h ++ c, whole, (o, record { header = h; is_header = d; is = refl }), omega (arith, length-append h c, s))
+      let all : x ≡ (h ++ c) ++ y = is ∙ ap (λ w. h ++ (c ++ w)) by ∙ sym (append_assoc h c y) in
+      (h ++ c, all, (o, record { header = h; is_header = d; is = refl }), omega (arith, length-append h c, s))
   primitive_passed x y t size c o (of_indefinite h d e is s) =
       let no : ◌≡◌ {A = Bool} false true = must_be mode t false None refl d in
       absurd cc
 
+  abbrev opened_value : Tag → Bor (List ℕ) → Enclosing
+  opened_value t start = record { place = place t; sorts = is_set t; kind = kind_of t; start = start; several = false; last = None }
+
   beginning_passed : (es : List Enclosing) (fs : List Frame) (os : List Open) (x y : List ℕ) (t : Tag) (size : ℕ) (o : Open) (at then : ℕ)
       (start : Bor (List ℕ)) (gs : List Enclosing) → AreAround mode octets es fs os x at → Comes octets os x at → BeginsValue mode x t true size y o
-      → then ≡ at + size → start.now ≡ x → gs ≡ record { place = place t; sorts = is_set t; start = start; last = None } ∷ es
+      → then ≡ at + size → start.now ≡ x → gs ≡ opened_value t start ∷ es
       → AreAround mode octets gs (record { tag = t; trees = no_trees } ∷ fs) (o ∷ os) y then
   beginning_passed es fs os x y t size o at then start gs i k (of_definite h b d e is s) n w g =
       record {
-        value = record { place = place t; sorts = is_set t; start = start; last = None };
+        value = opened_value t start;
         values = es;
         are = g;
         ends_by = o;
@@ -187,6 +252,8 @@ module _ (mode : Mode) (contents : Bool) (octets : List ℕ) where
         opened = refl;
         place_is = refl;
         sorts = refl;
+        kind_is = refl;
+        several = refl;
         last = refl;
         old = [];
         encode = refl;
@@ -200,7 +267,7 @@ module _ (mode : Mode) (contents : Bool) (octets : List ℕ) where
       }
   beginning_passed es fs os x y t size o at then start gs i k (of_indefinite h d e is s) n w g =
       record {
-        value = record { place = place t; sorts = is_set t; start = start; last = None };
+        value = opened_value t start;
         values = es;
         are = g;
         ends_by = o;
@@ -208,6 +275,8 @@ module _ (mode : Mode) (contents : Bool) (octets : List ℕ) where
         opened = refl;
         place_is = refl;
         sorts = refl;
+        kind_is = refl;
+        several = refl;
         last = refl;
         old = [];
         encode = refl;
@@ -246,32 +315,72 @@ module _ (mode : Mode) (contents : Bool) (octets : List ℕ) where
       let q : o ≡ None = first_same _ _ _ _ e in
       record {
         octets_are = header ++ (old ++ p);
-        is = is ∙ rw (q, cut) (whole old p y header);
+        is = is ∙ rw (q, cut) (all old p y header);
         encode = (old, h, inr (record { header = header; is_header = rw q at d; end = p; is_end = end; is = refl }));
         size = omega (arith, length-append header (old ++ p), length-append old p);
       }
     where
-      whole : (a b c h : List ℕ) → h ++ ((a ++ (b ++ c)) ++ []) ≡ (h ++ (a ++ b)) ++ c
-      whole a b c h = ap (λ z. h ++ z) (append-nil (a ++ (b ++ c)) ∙ sym (append_assoc a b c)) ∙ sym (append_assoc h (a ++ b) c)
+      all : (a b c h : List ℕ) → h ++ ((a ++ (b ++ c)) ++ []) ≡ (h ++ (a ++ b)) ++ c
+      all a b c h = ap (λ z. h ++ z) (append-nil (a ++ (b ++ c)) ∙ sym (append_assoc a b c)) ∙ sym (append_assoc h (a ++ b) c)
+
+  outline_same : (f : Frame) (v : Enclosing) → v.place ≡ place f.tag → IsLast mode v.last f.trees
+      → ended_outline v ≡ outline (constructed f.tag f.trees)
+  outline_same f v p i =
+      let q : last_unused v.last ≡ unused_of_last f.trees = unused_same mode v.last f.trees i in
+      rw (p, q) refl
+
+  end_told : (f : Frame) (v : Enclosing) (opens : List Open) (a y : List ℕ) (from then : ℕ) (old mid : List Breach) → v.kind ≡ kind_of f.tag
+      → v.several ≡ are_several f.trees → Comes octets opens v.start.now from → IsEncoding mode (constructed f.tag f.trees) a → v.start.now ≡ a ++ y
+      → then ≡ from + length a → TellsEnd mode contents v y then old mid
+      → TellsPlace mode contents octets (MayEnd mode (kind_of f.tag) (are_several f.trees)) old mid
+  end_told f v opens a y from then old mid k s c d is n (whole q m) =
+      in_place q (λ t. subst (λ z. MayEnd mode (kind_of f.tag) z) s (subst (λ z. MayEnd mode z v.several) k (m t)))
+  end_told f v opens a y from then old mid k s c d is n (in_vain place q t m w) =
+      let no : MayEnd mode (kind_of f.tag) (are_several f.trees) → ⊥ =
+      λ h. m (subst (λ z. MayEnd mode z v.several) (sym k) (subst (λ z. MayEnd mode (kind_of f.tag) z) (sym s) h)) in
+      misplaced _ q (omega arith) (All-one (Holds mode octets) _ (record {
+        opened = opens;
+        rest = v.start.now;
+        from = from;
+        place = 0;
+        comes = c;
+        breaks = broken.cut_in_vain f.tag f.trees a y refl d is no refl;
+        at = omega (arith, w a is, n);
+      })) t no
+
+  both_told : (P Q : Type 0) (old mid new : List Breach) → TellsPlace mode contents octets P old mid → TellsPlace mode contents octets Q mid new
+      → TellsPlace mode contents octets (P × Q) old new
+  both_told P Q old mid new (in_place a f) (in_place b g) = in_place (b ∙ a) (λ c. (f c, g c))
+  both_told P Q old mid new (in_place a f) (misplaced bs q l h c n) = misplaced bs (q ∙ ap (λ z. z ++ bs) a) l h c (λ w. n w.1)
+  both_told P Q old mid new (misplaced cs q l h c n) (in_place b g) = misplaced cs (b ∙ q) l h c (λ w. n w.0)
+  both_told P Q old mid new (misplaced cs q l h c n) (misplaced bs o k j d m) =
+      misplaced (cs ++ bs) (o ∙ ap (λ z. z ++ bs) q ∙ append_assoc old cs bs) (omega (arith, l, length-append cs bs))
+      (All-append (Holds mode octets) cs bs h j) c (λ w. n w.0)
 
   end_passed : (es : List Enclosing) (f : Frame) (fs : List Frame) (os : List Open) (x : List ℕ) (at : ℕ) (ps : List Open) (y : List ℕ)
       (then : ℕ) (o : Open) (n : ℕ) (start : Bor (List ℕ)) (gs : List Enclosing) (old new : List Breach) → AreAround mode octets es (f ∷ fs) os x at
       → os ≡ o ∷ ps → Closes mode o x y n → then ≡ at + n → Follows mode contents es start m.End y then old gs new
-      → Followed mode contents octets gs (added (constructed f.tag f.trees) fs) ps y then (MayComeIn mode fs (constructed f.tag f.trees)) old new
+      → Followed mode contents octets gs (added (constructed f.tag f.trees) fs) ps y then
+      (MayEnd mode (kind_of f.tag) (are_several f.trees) × MayComeIn mode fs (constructed f.tag f.trees)) old new
   end_passed es f fs os x at ps y then o n start gs old new i q c k h =
       let first : i.ends_by ≡ o = first_same _ _ _ _ (sym i.opened ∙ q) in
       let others : i.opens ≡ ps = others_same _ _ _ _ (sym i.opened ∙ q) in
       let d = subst (λ z. IsHeader mode f.tag true (length_of (open_length z (length (i.old ++ x)))) i.header) first i.is_header in
       let s = subst (λ z. i.value.start.now ≡ i.header ++ ((i.old ++ x) ++ behind_of z)) first i.start in
       let e = ended f.tag f.trees i.old i.header i.value.start.now o ps x y c.passed i.encode d s (c.step ps) in
-      let a : AddsBefore mode contents i.values i.value.place i.value.start.now y then old gs new =
-      subst (λ z. Follows mode contents z start m.End y then old gs new) i.are h in
-      let b : AddsBefore mode contents i.values (place f.tag) i.value.start.now y then old gs new =
-      subst (λ z. AddsBefore mode contents i.values z i.value.start.now y then old gs new) i.place_is a in
+      let l : Leaves mode contents i.value i.values y then old gs new = subst (λ z. Follows mode contents z start m.End y then old gs new) i.are h in
+      let u : Tree = constructed f.tag f.trees in
+      let same : ended_outline i.value ≡ outline u = outline_same f i.value i.place_is i.last in
+      let b : AddsBefore mode contents i.values (outline u) i.value.start.now y then l.mid gs new =
+      subst (λ z. AddsBefore mode contents i.values z i.value.start.now y then l.mid gs new) same l.adds in
       let size : then ≡ i.from + length e.octets_are = omega (arith, k, i.place_at, e.size, c.size) in
-      subst (λ z. Followed mode contents octets gs (added (constructed f.tag f.trees) fs) z y then (MayComeIn mode fs (constructed f.tag f.trees)) old new)
-      others
-      (one_more i.values fs i.opens i.value.start.now e.octets_are y i.from then (constructed f.tag f.trees) gs old new i.around e.is e.encode size b)
+      let all = one_more i.values fs i.opens i.value.start.now e.octets_are y i.from then u gs l.mid new i.around e.is e.encode size b in
+      let told : TellsPlace mode contents octets (MayEnd mode (kind_of f.tag) (are_several f.trees)) old l.mid =
+      end_told f i.value i.opens e.octets_are y i.from then old l.mid i.kind_is i.several i.comes e.encode e.is size l.tells in
+      record {
+        around = subst (λ z. AreAround mode octets gs (added u fs) z y then) others all.around;
+        tells = both_told _ _ old l.mid new told all.tells;
+      }
 
   -- what was met is followed
   pub met_followed : (es : List Enclosing) (fs : List Frame) (os : List Open) (x : List ℕ) (at : ℕ) (ps : List Open) (y : List ℕ) (then : ℕ)
@@ -280,8 +389,10 @@ module _ (mode : Mode) (contents : Bool) (octets : List ℕ) where
       → Followed mode contents octets gs (step fs p) ps y then (IsPlaced mode fs p) old new
   met_followed es fs os x at ps y then p met start gs old new i k (of_value t size c pe me b o q n) w h =
       let a = primitive_passed x y t size c o b in
-      let f : AddsBefore mode contents es (place t) start.now y then old gs new = subst (λ z. Follows mode contents es start z y then old gs new) me h in
-      let g : AddsBefore mode contents es (place t) x y then old gs new = subst (λ z. AddsBefore mode contents es (place t) z y then old gs new) w f in
+      let f : AddsBefore mode contents es (outline (primitive t c)) start.now y then old gs new =
+      subst (λ z. Follows mode contents es start z y then old gs new) me h in
+      let g : AddsBefore mode contents es (outline (primitive t c)) x y then old gs new =
+      subst (λ z. AddsBefore mode contents es (outline (primitive t c)) z y then old gs new) w f in
       let all = one_more es fs os x a.0 y at then (primitive t c) gs old new i a.1 a.2 (omega (arith, n, a.3)) g in
       subst (λ z. Followed mode contents octets gs (step fs z) ps y then (IsPlaced mode fs z) old new) (sym pe)
       (subst (λ z. Followed mode contents octets gs (added (primitive t c) fs) z y then (MayComeIn mode fs (primitive t c)) old new) (sym q) all)

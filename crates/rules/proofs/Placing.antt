@@ -1,10 +1,18 @@
 -- Values in their places, as pieces.
-use Rattle.std.proofs.Common.{◌≡◌, List, [], ◌∷◌, ◌++◌, Some, refl, sym, ap, subst, append_assoc}
+use Rattle.std.proofs.Common.{◌≡◌, Bool, true, false, None, List, [], reverse, ◌∙◌, ◌∷◌, ◌++◌, Some, refl, sym, ap, subst, append_assoc}
+use Rattle.std.specs.Prelude.{is_some}
+use Rattle.std.proofs.lemmas.List.{reverse-append}
 use Rattle.bcder.specs.declared.mode.Mode.{Mode}
+use Rattle.bcder.specs.laws.Sound.{none_is, some_inj}
 use Rattle.bcder.specs.x690.Identifier.{Tag}
 use Rattle.bcder.specs.x690.Tree.{Tree, primitive, constructed, Trees, no_trees, ◌∷ₜ◌, ◌+++◌}
 use Rattle.encodings.specs.Pieces.{Piece, ends, pieces, pieces_of}
-use Rattle.rules.specs.Placed.{last_of, MayComeEach, IsInPlace, AreInPlace, Frame, added, step, MayComeIn, IsPlaced, ArePlaced, open_behind}
+use Rattle.rules.specs.Placed.{are_several, last_of, unused_of, unused_of_last, MayComeEach, IsInPlace, AreInPlace, Frame, added, step, MayComeIn, IsPlaced, ArePlaced, open_behind}
+
+-- ---- stacks
+
+pub pushed_first : {X : Type 0} (os ps : List X) (f : X) → ps ≡ os ++ f ∷ [] → reverse ps ≡ f ∷ reverse os
+pushed_first os ps f e = ap reverse e ∙ reverse-append os (f ∷ [])
 
 -- ---- lists of values
 
@@ -12,6 +20,26 @@ pub last_added : (ts : Trees) (u : Tree) → last_of (ts +++ (u ∷ₜ no_trees)
 last_added no_trees u = refl
 last_added (t ∷ₜ no_trees) u = refl
 last_added (t ∷ₜ (s ∷ₜ ts)) u = last_added (s ∷ₜ ts) u
+
+pub is_last : (t : Tree) (ts : Trees) → is_some (last_of (t ∷ₜ ts)) ≡ true
+is_last t no_trees = refl
+is_last t (u ∷ₜ us) = is_last u us
+
+pub several_added : (ts : Trees) (u : Tree) → are_several (ts +++ (u ∷ₜ no_trees)) ≡ is_some (last_of ts)
+several_added no_trees u = refl
+several_added (t ∷ₜ no_trees) u = refl
+several_added (t ∷ₜ (s ∷ₜ ts)) u = sym (is_last s ts)
+
+pub unused_of_none : (ts : Trees) → last_of ts ≡ None → unused_of_last ts ≡ 0
+unused_of_none no_trees e = refl
+unused_of_none (t ∷ₜ ts) e =
+    let z : ◌≡◌ {A = Bool} true false = sym (is_last t ts) ∙ ap is_some e in
+    absurd cc
+
+pub unused_of_some : (ts : Trees) (u : Tree) → last_of ts ≡ Some u → unused_of_last ts ≡ unused_of u
+unused_of_some no_trees u e = absurd (none_is u e)
+unused_of_some (t ∷ₜ no_trees) u e = ap unused_of (some_inj t u e)
+unused_of_some (t ∷ₜ (s ∷ₜ ts)) u e = unused_of_some (s ∷ₜ ts) u e
 
 one_by_one : (ts us : Trees) (u : Tree) → (ts +++ (u ∷ₜ no_trees)) +++ us ≡ ts +++ (u ∷ₜ us)
 one_by_one no_trees us u = refl
@@ -34,7 +62,7 @@ module _ (mode : Mode) where
     placed_tree (constructed t ts) fs ps i m h = (
       tt,
       subst (ArePlaced mode (frame t no_trees ∷ fs)) (sym (append_assoc (pieces_of ts) (ends ∷ []) ps))
-          (placed_trees ts no_trees t fs (ends ∷ ps) i.0 i.1 (m, h)),
+          (placed_trees ts no_trees t fs (ends ∷ ps) i.0 i.1 ((i.2, m), h)),
     )
 
     placed_trees : (us ts : Trees) (t : Tag) (fs : List Frame) (ps : List Piece) → AreInPlace mode us → MayComeEach mode t (last_of ts) us
@@ -57,7 +85,7 @@ module _ (mode : Mode) where
     tree_placed (constructed t ts) fs ps h =
         let k = trees_placed ts no_trees t fs (ends ∷ ps)
         (subst (ArePlaced mode (frame t no_trees ∷ fs)) (append_assoc (pieces_of ts) (ends ∷ []) ps) h.1) in
-        ((k.0, k.1), k.2.0, k.2.1)
+        ((k.0, k.1, k.2.0.0), k.2.0.1, k.2.1)
 
     trees_placed : (us ts : Trees) (t : Tag) (fs : List Frame) (ps : List Piece) → ArePlaced mode (frame t ts ∷ fs) (pieces_of us ++ ps)
         → AreInPlace mode us × MayComeEach mode t (last_of ts) us × ArePlaced mode (frame t (ts +++ us) ∷ fs) ps

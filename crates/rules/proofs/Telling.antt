@@ -80,7 +80,7 @@ module _ (mode : Mode) (contents : Bool) (t : Tag) (size : ℕ) (c : List ℕ) (
 
 value_judges : (mode : Mode) (contents : Bool) (x : List ℕ) (t : Tag) (f : Bool) (size : ℕ) (c : List ℕ) (o : Open) (os ps : List Open)
     (y : List ℕ) (at then : ℕ) (old new : List Breach) → AreOctets x → IsDue mode os x → BeginsValue mode x t f size c o
-    → Enters f size c o at os ps y then → Looks mode contents t f size c at old new → Judges mode contents os x at ps y then old new (met_meant t f)
+    → Enters f size c o at os ps y then → Looks mode contents t f size c at old new → Judges mode contents os x at ps y then old new (met_meant t f c)
 value_judges mode contents x t false size c o os ps y at then old new octets due b i l =
     passes (value t c) (of_value t size c refl refl (subst (BeginsValue mode x t false size c) i.1 b) (octets_inside mode x t false size c o octets b) i.0 i.2)
     (value_next mode os x t false c o y octets due (as_piece mode x t false size c o b) refl i.1
@@ -93,7 +93,7 @@ value_judges mode contents x t true size c o os ps y at then old new octets due 
 -- ---- one step
 
 pub value_passed : (mode : Mode) (contents : Bool) (x : List ℕ) (t : Tag) (f : Bool) (size : ℕ) (c : List ℕ) (o : Open) (os ps : List Open)
-    (y : List ℕ) (at then : ℕ) (old new : List Breach) (met : Met) → AreOctets x → IsDue mode os x → BeginsValue mode x t f size c o → met ≡ met_meant t f
+    (y : List ℕ) (at then : ℕ) (old new : List Breach) (met : Met) → AreOctets x → IsDue mode os x → BeginsValue mode x t f size c o → met ≡ met_meant t f c
     → PassesValue mode contents t f size c o os x at old ps y then new → Passes mode contents os x at old ps y then new met
 value_passed mode contents x t f size c o os ps y at then old new met octets due b e p = record {
   onward = p.onward;

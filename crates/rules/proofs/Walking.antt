@@ -2,7 +2,6 @@
 use Rattle.std.proofs.Common.{◌≡◌, ℕ, ◌≤◌, Bool, true, false, List, [], ◌∷◌, ◌++◌, length, Option, Some, None, refl, sym, ap, subst, ◌∙◌}
 use Rattle.std.proofs.Common.{zero, suc, append-nil, append_assoc, arith}
 use Rattle.std.specs.Prelude.{All, ◌↔◌}
-use Rattle.encodings.specs.Sets.{place, is_set}
 use denote.Ref.{Bor}
 use Rattle.std.proofs.lemmas.List.{length-append}
 use Rattle.std.proofs.lemmas.List.Elements.{All-append, All-nil}
@@ -16,13 +15,13 @@ use Rattle.encodings.proofs.PiecesRead.{before_none, before_both, nothing_left, 
 use Rattle.rules.specs.Broken.{Holds}
 use Rattle.rules.specs.Comes.{Comes, at_first}
 use Rattle.rules.specs.Means.{IsMeant, AreMeant, IsPieceMeant, AreRight}
-use Rattle.rules.specs.Around.{AreAround, Follows}
+use Rattle.rules.specs.Around.{AreAround, Follows, met_meant}
 use Rattle.rules.specs.Passes.{IsJudged, IsKept, kept, broken, IsMet, of_value, of_beginning, of_end, Judges, passes, loses, Passes}
 use Rattle.rules.specs.Passes.{InWalk, IsFollowed, so_far, no_values, IsVerdict, right, wrong}
 use Rattle.rules.specs.Placed.{ArePlaced, IsPlaced, open_behind}
 use Rattle.rules.specs.declared.around.Enclosing.{Enclosing}
 use Rattle.rules.specs.declared.around.Met.{Met}
-use Rattle.rules.specs.declared.around.Met.TheVariants.{Value, Begin, End, Lost}
+use Rattle.rules.specs.declared.around.Met.TheVariants.{End, Lost}
 use Rattle.rules.proofs.Following.{TellsPlace, in_place, misplaced, met_followed}
 use Rattle.rules.proofs.Placing.{behind_more, front_placed, one_more_placed, outside_placed, placed_outside}
 use Rattle.rules.specs.declared.rule.Breach.{Breach}
@@ -122,21 +121,21 @@ module _ (mode : Mode) (contents : Bool) (octets : List ℕ) where
   judged_on passed p r old mid new e (right f kept_all placed) more is (kept same k) (in_place q i) =
       right (q ∙ same ∙ f) (All-append (IsKept mode contents) passed (p ∷ []) kept_all (All-one (IsKept mode contents) p k))
       (λ c. one_more_placed mode [] passed p (placed c) (i c))
-  judged_on passed p r old mid new e (right f kept_all placed) more is (kept same k) (misplaced b q h c n) =
-      wrong (omega (arith, ap length q, length-append mid (b ∷ []))) (λ w. not_placed passed p r e w c n)
+  judged_on passed p r old mid new e (right f kept_all placed) more is (kept same k) (misplaced b q z h c n) =
+      wrong (omega (arith, z, ap length q, length-append mid b)) (λ w. not_placed passed p r e w c n)
   judged_on passed p r old mid new e (right f kept_all placed) more is (broken l n) (in_place q i) =
       wrong (omega (arith, l, ap length q)) (λ w. not_kept passed p r e w n)
-  judged_on passed p r old mid new e (right f kept_all placed) more is (broken l n) (misplaced b q h c m) =
-      wrong (omega (arith, ap length q, length-append mid (b ∷ []))) (λ w. not_kept passed p r e w n)
+  judged_on passed p r old mid new e (right f kept_all placed) more is (broken l n) (misplaced b q z h c m) =
+      wrong (omega (arith, z, ap length q, length-append mid b)) (λ w. not_kept passed p r e w n)
   judged_on passed p r old mid new e (wrong l n) more is j (in_place q i) =
       wrong (omega (arith, l, ap length q, ap length is, length-append old more)) n
-  judged_on passed p r old mid new e (wrong l n) more is j (misplaced b q h c m) =
-      wrong (omega (arith, ap length q, length-append mid (b ∷ []))) n
+  judged_on passed p r old mid new e (wrong l n) more is j (misplaced b q z h c m) =
+      wrong (omega (arith, z, ap length q, length-append mid b)) n
 
   hold_on : (P : Type 0) (mid new : List Breach) → All (Holds mode octets) mid → TellsPlace mode contents octets P mid new → All (Holds mode octets) new
   hold_on P mid new h (in_place q i) = subst (All (Holds mode octets)) (sym q) h
-  hold_on P mid new h (misplaced b q k c n) =
-      subst (All (Holds mode octets)) (sym q) (All-append (Holds mode octets) mid (b ∷ []) h (All-one (Holds mode octets) b k))
+  hold_on P mid new h (misplaced b q z k c n) =
+      subst (All (Holds mode octets)) (sym q) (All-append (Holds mode octets) mid b h k)
 
   hold_more : (os ps : List Open) (x y : List ℕ) (at then : ℕ) (old mid : List Breach) (met : Met) → Comes octets os x at → All (Holds mode octets) old
       → Passes mode contents os x at old ps y then mid met → All (Holds mode octets) mid
@@ -145,8 +144,8 @@ module _ (mode : Mode) (contents : Bool) (octets : List ℕ) where
       subst (All (Holds mode octets)) (sym a.is) (All-append (Holds mode octets) old a.more h (a.hold octets k))
 
   not_lost : (os ps : List Open) (x y : List ℕ) (at then : ℕ) (q : Piece) (met : Met) → IsMet mode os x at ps y then q met → met ≡ Lost → ⊥
-  not_lost os ps x y at then q met (of_value t size c pe me b o e n) k = let z : Value (place t) ≡ Lost = sym me ∙ k in absurd cc
-  not_lost os ps x y at then q met (of_beginning t size o pe me b e n) k = let z : Begin (place t) (is_set t) ≡ Lost = sym me ∙ k in absurd cc
+  not_lost os ps x y at then q met (of_value t size c pe me b o e n) k = let z : met_meant t false c ≡ Lost = sym me ∙ k in absurd cc
+  not_lost os ps x y at then q met (of_beginning t size o pe me b e n) k = let z : met_meant t true y ≡ Lost = sym me ∙ k in absurd cc
   not_lost os ps x y at then q met (of_end o n pe me c e j) k = let z : End ≡ Lost = sym me ∙ k in absurd cc
 
   -- a value was lost, now or before

@@ -1,5 +1,5 @@
 -- The values around the octets to come, as they are in memory.
-use Rattle.std.specs.Prelude.{◌≡◌, ◌≢◌, ◌⊎◌, ℕ, ◌+◌, ◌-◌, ◌<◌, Bool, true, false, ⊤, List, [], ◌∷◌, ◌++◌, length, Option, Some, None}
+use Rattle.std.specs.Prelude.{◌≡◌, ◌≢◌, ◌⊎◌, ℕ, ◌+◌, ◌-◌, ◌<◌, Bool, true, false, ⊤, List, [], ◌∷◌, ◌++◌, length, slice_index, Option, Some, None, is_some, option_map}
 use denote.Ref.{Bor}
 use Rattle.bcder.specs.declared.mode.Mode.{Mode}
 use Rattle.bcder.specs.declared.mode.Mode.TheVariants.{Ber}
@@ -7,7 +7,6 @@ use Rattle.bcder.specs.x690.Encoding.{IsHeader, IsEncoding, AreEncodings}
 use Rattle.bcder.specs.x690.Identifier.{Tag}
 use Rattle.bcder.specs.x690.Tree.{Tree, Trees}
 use Rattle.bcder.specs.calls.ContentsLen.{length_of}
-use Rattle.bcder.specs.calls.Valued.{tag_of}
 use Rattle.encodings.specs.Open.{Open}
 use Rattle.encodings.specs.Sets.{place, is_set, IsNotAfter}
 use Rattle.encodings.specs.Sorting.{behind_of, open_length}
@@ -16,16 +15,18 @@ use Rattle.rules.specs.declared.around.Enclosing.{Enclosing}
 use Rattle.rules.specs.declared.around.Met.{Met}
 use Rattle.rules.specs.declared.around.Met.TheVariants as m
 use Rattle.rules.specs.declared.rule.Breach.{Breach}
+use Rattle.rules.specs.declared.rule.Rule.{Rule}
 use Rattle.rules.specs.declared.rule.Rule.TheVariants as r
 use Rattle.rules.specs.Comes.{Comes}
-use Rattle.rules.specs.Placed.{Frame, last_of}
+use Rattle.rules.specs.Kinds.{kind_of}
+use Rattle.rules.specs.Placed.{Frame, Outline, are_several, last_of, outline, HasSegmentTag, IsBehindWhole, IsCut, MayEnd}
 
 -- ---- one step
 
--- what is told of the header of a value
-abbrev pub met_meant : Tag → Bool → Met
-met_meant t false = m.Value (place t)
-met_meant t true = m.Begin (place t) (is_set t)
+-- what is told of a primitive value, or of the header of a constructed one
+abbrev pub met_meant : Tag → Bool → List ℕ → Met
+met_meant t false c = m.Value (place t) (length c) (slice_index c 0)
+met_meant t true c = m.Begin (place t) (is_set t) (kind_of t)
 
 -- an element of a SET comes behind the last one
 abbrev pub KeepsOrder : Mode → Bool → Option Element → Element → Type 0
@@ -33,43 +34,75 @@ KeepsOrder mode sorts None n = ⊤
 KeepsOrder mode sorts (Some e) n =
     mode ≢ Ber → sorts ≡ true → (e.place < n.place) ⊎ ((e.place ≡ n.place) × IsNotAfter e.octets.now n.octets.now)
 
--- the same in the innermost of open values
-abbrev pub KeepsOrderIn : Mode → List Enclosing → Element → Type 0
-KeepsOrderIn mode [] n = ⊤
-KeepsOrderIn mode (e ∷ es) n = KeepsOrder mode e.sorts e.last n
+abbrev pub element_outline : Element → Outline
+element_outline e = record { place = e.place; size = e.size; unused = e.unused }
+
+-- an element may come behind the last one in an open value
+pub record Fits (mode : Mode) (e : Enclosing) (n : Element) : Type 0 where
+  pub order : KeepsOrder mode e.sorts e.last n
+  pub tag : HasSegmentTag e.kind (element_outline n)
+  pub unused : IsBehindWhole e.kind (option_map element_outline e.last)
+  pub cut : IsCut mode e.kind (option_map element_outline e.last) (element_outline n)
+
+-- it may not, by a rule
+pub data BreaksFit (mode : Mode) (e : Enclosing) (n : Element) (rule : Rule) : Type 0 where
+  out_of_order : rule ≡ r.OutOfOrder → (KeepsOrder mode e.sorts e.last n → ⊥) → BreaksFit mode e n rule
+  other_tag : rule ≡ r.SegmentTag e.kind → (HasSegmentTag e.kind (element_outline n) → ⊥) → BreaksFit mode e n rule
+  behind_unused : rule ≡ r.SegmentUnused → (IsBehindWhole e.kind (option_map element_outline e.last) → ⊥) → BreaksFit mode e n rule
+  other_size : rule ≡ r.SegmentSize → (IsCut mode e.kind (option_map element_outline e.last) (element_outline n) → ⊥) → BreaksFit mode e n rule
 
 -- it is the last one then
-abbrev pub with_last : Element → List Enclosing → List Enclosing
-with_last n [] = []
-with_last n (e ∷ es) = record { place = e.place; sorts = e.sorts; start = e.start; last = Some n } ∷ es
+abbrev pub with_last : Element → Enclosing → Enclosing
+with_last n e = record { place = e.place; sorts = e.sorts; kind = e.kind; start = e.start; several = is_some e.last; last = Some n }
 
--- it is told if it isn't in order
-pub data TellsOrder (mode : Mode) (contents : Bool) (es : List Enclosing) (n : Element) (at : ℕ) (old new : List Breach) : Type 0 where
-  nothing : new ≡ old → (contents ≡ true → KeepsOrderIn mode es n) → TellsOrder mode contents es n at old new
-  told : new ≡ old ++ record { at = at - length n.octets.now; rule = r.OutOfOrder } ∷ [] → contents ≡ true → (KeepsOrderIn mode es n → ⊥)
-      → TellsOrder mode contents es n at old new
+-- it is told if it doesn't fit
+pub data TellsFit (mode : Mode) (contents : Bool) (e : Enclosing) (n : Element) (at : ℕ) (old new : List Breach) : Type 0 where
+  fits : new ≡ old → (contents ≡ true → Fits mode e n) → TellsFit mode contents e n at old new
+  misfits : (rule : Rule) → new ≡ old ++ record { at = at - length n.octets.now; rule = rule } ∷ [] → contents ≡ true → BreaksFit mode e n rule
+      → TellsFit mode contents e n at old new
 
 -- an element of the innermost open value was passed
-pub record Adds (mode : Mode) (contents : Bool) (es : List Enclosing) (n : Element) (at : ℕ) (old : List Breach) (fs : List Enclosing)
-    (new : List Breach) : Type 0 where
-  pub are : fs ≡ with_last n es
-  pub tells : TellsOrder mode contents es n at old new
+abbrev pub Adds : Mode → Bool → List Enclosing → Element → ℕ → List Breach → List Enclosing → List Breach → Type 0
+Adds mode contents [] n at old fs new = (fs ≡ []) × (new ≡ old)
+Adds mode contents (e ∷ es) n at old fs new = (fs ≡ with_last n e ∷ es) × TellsFit mode contents e n at old new
 
--- the same of an element whose tag has this place, and which is before the octets `rest`
-pub record AddsBefore (mode : Mode) (contents : Bool) (es : List Enclosing) (p : ℕ) (start rest : List ℕ) (at : ℕ) (old : List Breach)
+-- the same of an element with this outline, which is before the octets `rest`
+pub record AddsBefore (mode : Mode) (contents : Bool) (es : List Enclosing) (o : Outline) (start rest : List ℕ) (at : ℕ) (old : List Breach)
     (fs : List Enclosing) (new : List Breach) : Type 0 where
   pub element : Element
-  pub place_is : element.place ≡ p
+  pub outline_is : element_outline element ≡ o
   pub octets_are : (v : List ℕ) → start ≡ v ++ rest → element.octets.now ≡ v
   pub adds : Adds mode contents es element at old fs new
 
+-- a value that ends is told if it is cut in vain
+pub data TellsEnd (mode : Mode) (contents : Bool) (e : Enclosing) (rest : List ℕ) (at : ℕ) (old new : List Breach) : Type 0 where
+  whole : new ≡ old → (contents ≡ true → MayEnd mode e.kind e.several) → TellsEnd mode contents e rest at old new
+  in_vain : (place : ℕ) → new ≡ old ++ record { at = place; rule = r.SegmentSize } ∷ [] → contents ≡ true → (MayEnd mode e.kind e.several → ⊥)
+      → ((v : List ℕ) → e.start.now ≡ v ++ rest → place ≡ at - length v) → TellsEnd mode contents e rest at old new
+
+-- the unused bits of the last element
+abbrev pub last_unused : Option Element → ℕ
+last_unused None = 0
+last_unused (Some e) = e.unused
+
+-- what counts of a value that ended
+abbrev pub ended_outline : Enclosing → Outline
+ended_outline e = record { place = e.place; size = None; unused = last_unused e.last }
+
+pub record Leaves (mode : Mode) (contents : Bool) (e : Enclosing) (es : List Enclosing) (rest : List ℕ) (at : ℕ) (old : List Breach)
+    (fs : List Enclosing) (new : List Breach) : Type 0 where
+  pub mid : List Breach
+  pub tells : TellsEnd mode contents e rest at old mid
+  pub adds : AddsBefore mode contents es (ended_outline e) e.start.now rest at mid fs new
+
 -- what was met is followed
 abbrev pub Follows : Mode → Bool → List Enclosing → Bor (List ℕ) → Met → List ℕ → ℕ → List Breach → List Enclosing → List Breach → Type 0
-Follows mode contents es start (m.Value p) rest at old fs new = AddsBefore mode contents es p start.now rest at old fs new
-Follows mode contents es start (m.Begin p s) rest at old fs new =
-    (fs ≡ record { place = p; sorts = s; start = start; last = None } ∷ es) × (new ≡ old)
+Follows mode contents es start (m.Value p n u) rest at old fs new =
+    AddsBefore mode contents es (record { place = p; size = Some n; unused = u }) start.now rest at old fs new
+Follows mode contents es start (m.Begin p s k) rest at old fs new =
+    (fs ≡ record { place = p; sorts = s; kind = k; start = start; several = false; last = None } ∷ es) × (new ≡ old)
 Follows mode contents [] start m.End rest at old fs new = (fs ≡ []) × (new ≡ old)
-Follows mode contents (e ∷ es) start m.End rest at old fs new = AddsBefore mode contents es e.place e.start.now rest at old fs new
+Follows mode contents (e ∷ es) start m.End rest at old fs new = Leaves mode contents e es rest at old fs new
 Follows mode contents es start m.Lost rest at old fs new = (fs ≡ es) × (new ≡ old)
 
 -- ---- what they are
@@ -77,7 +110,7 @@ Follows mode contents es start m.Lost rest at old fs new = (fs ≡ es) × (new �
 -- the last value
 abbrev pub IsLast : Mode → Option Element → Trees → Type 0
 IsLast mode None ts = last_of ts ≡ None
-IsLast mode (Some e) ts = (u : Tree) × (last_of ts ≡ Some u) × (e.place ≡ place (tag_of u)) × IsEncoding mode u e.octets.now
+IsLast mode (Some e) ts = (u : Tree) × (last_of ts ≡ Some u) × (element_outline e ≡ outline u) × IsEncoding mode u e.octets.now
 
 -- inside the innermost of open values, to which a walk came; values were passed in it up to the octets x, of which the first is at `at`
 pub record Inside (mode : Mode) (octets : List ℕ) (es : List Enclosing) (f : Frame) (os : List Open) (x : List ℕ) (at : ℕ)
@@ -90,6 +123,8 @@ pub record Inside (mode : Mode) (octets : List ℕ) (es : List Enclosing) (f : F
   pub opened : os ≡ ends_by ∷ opens
   pub place_is : value.place ≡ place f.tag
   pub sorts : value.sorts ≡ is_set f.tag
+  pub kind_is : value.kind ≡ kind_of f.tag
+  pub several : value.several ≡ are_several f.trees
   pub last : IsLast mode value.last f.trees
   pub old : List ℕ
   pub encode : AreEncodings mode f.trees old

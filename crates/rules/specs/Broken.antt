@@ -1,22 +1,22 @@
 -- What it is for octets to break a rule.
 use Rattle.std.specs.Prelude.{◌≡◌, ◌≢◌, ◌⊎◌, ℕ, ◌+◌, ◌-◌, ◌^◌, ◌<◌, ◌≤◌, Bool, true, false, List, [], ◌∷◌, ◌++◌, length, slice_index, drop}
-use Rattle.std.specs.Prelude.{Some, None, ⊤}
+use Rattle.std.specs.Prelude.{Option, Some, None, option_map, ⊤}
 use Rattle.bcder.specs.declared.mode.Mode.{Mode}
 use Rattle.bcder.specs.declared.mode.Mode.TheVariants.{Ber, Cer, Der}
 use Rattle.bcder.specs.x690.BitString.{AreCleared}
 use Rattle.bcder.specs.x690.Encoding.{IsEncoding, AreEncodings}
 use Rattle.bcder.specs.x690.Identifier.{Tag}
 use Rattle.bcder.specs.x690.ObjectIdentifier.{IsComplete}
-use Rattle.bcder.specs.x690.Tree.{Tree, Trees}
+use Rattle.bcder.specs.x690.Tree.{Tree, constructed, Trees}
 use Rattle.bcder.specs.calls.Fronts.{BeginsEnd, BeginsHeader}
 use Rattle.bcder.specs.calls.Violations.{ViolatesFront}
 use Rattle.encodings.specs.Next.{IsDue}
 use Rattle.encodings.specs.Open.{Open, GoesBeyond, HasNoHeader}
 use Rattle.rules.specs.Begun.{BeginsValue}
 use Rattle.rules.specs.Comes.{Comes}
-use Rattle.rules.specs.Kinds.{kind_of}
+use Rattle.rules.specs.Kinds.{kind_of, IsString}
 use Rattle.rules.specs.Means.{HasCharacters, MayBeConstructed}
-use Rattle.rules.specs.Placed.{last_of, MayCome}
+use Rattle.rules.specs.Placed.{are_several, last_of, outline, InOrder, HasSegmentTag, IsBehindWhole, IsCut, MayEnd}
 use Rattle.rules.specs.Reals.{IsReal, IsStrictReal}
 use Rattle.rules.specs.declared.kind.Kind.{Kind}
 use Rattle.rules.specs.declared.kind.Kind.TheVariants as k
@@ -35,21 +35,6 @@ pub record IsPadded (c : List ℕ) (place : ℕ) : Type 0 where
   pub inside : place < length c
   pub padding : slice_index c place ≡ 0x80
   pub begins : 0 < place → slice_index c (place - 1) < 0x80
-
--- a kind of strings, of octets or of bits
-abbrev pub IsString : Kind → Type 0
-IsString k.BitString = ⊤
-IsString k.OctetString = ⊤
-IsString k.Utf8String = ⊤
-IsString k.NumericString = ⊤
-IsString k.PrintableString = ⊤
-IsString k.Ia5String = ⊤
-IsString k.VisibleString = ⊤
-IsString k.UniversalString = ⊤
-IsString k.BmpString = ⊤
-IsString k.UtcTime = ⊤
-IsString k.GeneralizedTime = ⊤
-IsString kind = ⊥
 
 -- a kind of times
 abbrev pub IsTime : Kind → Type 0
@@ -92,6 +77,13 @@ pub data BreaksValue (mode : Mode) (t : Tag) (form : Bool) (size : ℕ) (c : Lis
   in_contents : (n : ℕ) → form ≡ false → BreaksContents mode (kind_of t) c rule n → place ≡ size + n
       → BreaksValue mode t form size c rule place
 
+-- a value may not come behind the last one inside a value with this tag, by a rule
+pub data BreaksPlace (mode : Mode) (t : Tag) (last : Option Tree) (v : Tree) (rule : Rule) : Type 0 where
+  out_of_order : rule ≡ r.OutOfOrder → (InOrder mode t last v → ⊥) → BreaksPlace mode t last v rule
+  other_tag : rule ≡ r.SegmentTag (kind_of t) → (HasSegmentTag (kind_of t) (outline v) → ⊥) → BreaksPlace mode t last v rule
+  behind_unused : rule ≡ r.SegmentUnused → (IsBehindWhole (kind_of t) (option_map outline last) → ⊥) → BreaksPlace mode t last v rule
+  other_size : rule ≡ r.SegmentSize → (IsCut mode (kind_of t) (option_map outline last) (outline v) → ⊥) → BreaksPlace mode t last v rule
+
 -- ---- octets
 
 -- one of the open values has a definite length
@@ -111,9 +103,11 @@ pub data Breaks (mode : Mode) (os : List Open) (x : List ℕ) (rule : Rule) (pla
   value_too_long : rule ≡ r.ValueTooLong → GoesBeyond Ber x → IsInDefinite os → place ≡ 0 → Breaks mode os x rule place
   stray_end : rule ≡ r.StrayEnd → IsEnd mode x → IsDue mode os x → place ≡ 0 → Breaks mode os x rule place
   missing_end : (ps : List Open) → rule ≡ r.MissingEnd → x ≡ [] → os ≡ None ∷ ps → place ≡ 0 → Breaks mode os x rule place
-  out_of_order : (t : Tag) (size : ℕ) (c : List ℕ) (behind : Open) (us : Trees) (v : Tree) (front w z : List ℕ) → rule ≡ r.OutOfOrder
+  out_of_place : (t : Tag) (size : ℕ) (c : List ℕ) (behind : Open) (us : Trees) (v : Tree) (front w z : List ℕ)
       → BeginsValue mode x t true size c behind → AreEncodings mode us front → IsEncoding mode v w → c ≡ front ++ (w ++ z)
-      → (MayCome mode t (last_of us) v → ⊥) → place ≡ size + length front → Breaks mode os x rule place
+      → BreaksPlace mode t (last_of us) v rule → place ≡ size + length front → Breaks mode os x rule place
+  cut_in_vain : (t : Tag) (us : Trees) (w z : List ℕ) → rule ≡ r.SegmentSize → IsEncoding mode (constructed t us) w → x ≡ w ++ z
+      → (MayEnd mode (kind_of t) (are_several us) → ⊥) → place ≡ 0 → Breaks mode os x rule place
   in_value : (t : Tag) (form : Bool) (size : ℕ) (c : List ℕ) (behind : Open) → BeginsValue Ber x t form size c behind
       → BreaksValue mode t form size c rule place → Breaks mode os x rule place
 

@@ -1,5 +1,5 @@
 -- The kinds of types, by their tags (ITU-T X.680, 8.4).
-use Rattle.std.specs.Prelude.{ℕ, Bool, ◌||◌, ◌==◌, if◌then◌else◌}
+use Rattle.std.specs.Prelude.{ℕ, ⊤, Bool, true, false, ◌||◌, ◌==◌, if◌then◌else◌}
 use Rattle.bcder.specs.x690.Identifier.{Class, universal, application, context_specific, private, Tag}
 use Rattle.rules.specs.declared.kind.Kind.{Kind}
 use Rattle.rules.specs.declared.kind.Kind.TheVariants as k
@@ -42,3 +42,39 @@ kind_of t = of_class t.class t.number
     of_class application n = k.Other
     of_class context_specific n = k.Other
     of_class private n = k.Other
+
+-- a kind of strings, of octets or of bits
+abbrev pub IsString : Kind → Type 0
+IsString k.BitString = ⊤
+IsString k.OctetString = ⊤
+IsString k.Utf8String = ⊤
+IsString k.NumericString = ⊤
+IsString k.PrintableString = ⊤
+IsString k.Ia5String = ⊤
+IsString k.VisibleString = ⊤
+IsString k.UniversalString = ⊤
+IsString k.BmpString = ⊤
+IsString k.UtcTime = ⊤
+IsString k.GeneralizedTime = ⊤
+IsString kind = ⊥
+
+-- BIT STRING
+abbrev pub is_bits : Kind → Bool
+is_bits k.Boolean = false
+is_bits k.Integer = false
+is_bits k.Real = false
+is_bits k.BitString = true
+is_bits k.OctetString = false
+is_bits k.Utf8String = false
+is_bits k.NumericString = false
+is_bits k.PrintableString = false
+is_bits k.Ia5String = false
+is_bits k.VisibleString = false
+is_bits k.UniversalString = false
+is_bits k.BmpString = false
+is_bits k.UtcTime = false
+is_bits k.GeneralizedTime = false
+is_bits k.Null = false
+is_bits k.Identifier = false
+is_bits k.Structure = false
+is_bits k.Other = false

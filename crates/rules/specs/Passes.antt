@@ -77,9 +77,9 @@ IsKept mode contents p = contents ≡ true → IsPieceMeant mode p
 
 -- a piece was passed, from the octets x inside the open values os to y inside ps, and what is told of it
 pub data IsMet (mode : Mode) (os : List Open) (x : List ℕ) (at : ℕ) (ps : List Open) (y : List ℕ) (then : ℕ) (p : Piece) (met : Met) : Type 0 where
-  of_value : (t : Tag) (size : ℕ) (c : List ℕ) → p ≡ value t c → met ≡ met_meant t false → BeginsValue mode x t false size c (Some y)
+  of_value : (t : Tag) (size : ℕ) (c : List ℕ) → p ≡ value t c → met ≡ met_meant t false c → BeginsValue mode x t false size c (Some y)
       → AreOctets c → ps ≡ os → then ≡ at + size + length c → IsMet mode os x at ps y then p met
-  of_beginning : (t : Tag) (size : ℕ) (o : Open) → p ≡ begins t → met ≡ met_meant t true → BeginsValue mode x t true size y o → ps ≡ o ∷ os
+  of_beginning : (t : Tag) (size : ℕ) (o : Open) → p ≡ begins t → met ≡ met_meant t true y → BeginsValue mode x t true size y o → ps ≡ o ∷ os
       → then ≡ at + size → IsMet mode os x at ps y then p met
   of_end : (o : Open) (n : ℕ) → p ≡ ends → met ≡ m.End → Closes mode o x y n → os ≡ o ∷ ps → then ≡ at + n → IsMet mode os x at ps y then p met
 

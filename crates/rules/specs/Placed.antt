@@ -1,11 +1,15 @@
--- Which values may come behind which inside a constructed one (ITU-T X.690, 9.3, 10.3, 11.6).
-use Rattle.std.specs.Prelude.{◌≡◌, ◌≢◌, true, ⊤, List, [], ◌∷◌, Option, Some, None}
+-- Which values may come behind which inside a constructed one (ITU-T X.690, 8.6.4, 8.7.3, 9.2, 9.3, 10.3, 11.6).
+use Rattle.std.specs.Prelude.{◌≡◌, ◌≢◌, ℕ, ◌<◌, Bool, true, false, ⊤, List, [], ◌∷◌, length, slice_index}
+use Rattle.std.specs.Prelude.{Option, Some, None, option_map, if◌then◌else◌}
 use Rattle.bcder.specs.declared.mode.Mode.{Mode}
-use Rattle.bcder.specs.declared.mode.Mode.TheVariants.{Ber}
+use Rattle.bcder.specs.declared.mode.Mode.TheVariants.{Ber, Cer}
 use Rattle.bcder.specs.x690.Identifier.{Tag}
 use Rattle.bcder.specs.x690.Tree.{Tree, primitive, constructed, Trees, no_trees, ◌∷ₜ◌, ◌+++◌}
 use Rattle.encodings.specs.Pieces.{Piece, value, begins, ends}
-use Rattle.encodings.specs.Sets.{is_set, MayPrecede}
+use Rattle.bcder.specs.calls.Valued.{tag_of}
+use Rattle.encodings.specs.Sets.{is_set, place, MayPrecede}
+use Rattle.rules.specs.Kinds.{is_bits, kind_of, IsString}
+use Rattle.rules.specs.declared.kind.Kind.{Kind}
 
 -- the last of values
 abbrev pub last_of : Trees → Option Tree
@@ -13,10 +17,82 @@ last_of no_trees = None
 last_of (t ∷ₜ no_trees) = Some t
 last_of (t ∷ₜ (u ∷ₜ us)) = last_of (u ∷ₜ us)
 
+-- two values or more
+abbrev pub are_several : Trees → Bool
+are_several no_trees = false
+are_several (t ∷ₜ no_trees) = false
+are_several (t ∷ₜ (u ∷ₜ us)) = true
+
+-- ---- SET (9.3, 10.3, 11.6)
+
 -- in CER and DER a value inside a SET is in order with the one before it, if there is one
-abbrev pub MayCome : Mode → Tag → Option Tree → Tree → Type 0
-MayCome mode t None v = ⊤
-MayCome mode t (Some u) v = mode ≢ Ber → is_set t ≡ true → MayPrecede mode u v
+abbrev pub InOrder : Mode → Tag → Option Tree → Tree → Type 0
+InOrder mode t None v = ⊤
+InOrder mode t (Some u) v = mode ≢ Ber → is_set t ≡ true → MayPrecede mode u v
+
+-- ---- strings (8.6.4, 8.7.3, 8.23.3, 9.2)
+
+-- the number of contents octets of a primitive value
+abbrev pub size_of : Tree → Option ℕ
+size_of (primitive t c) = Some (length c)
+size_of (constructed t ts) = None
+
+-- the first contents octet of the last primitive value that is the value or is in it: of a BIT STRING the number of unused bits (8.6.2.2)
+abbrev mutual
+  pub unused_of : Tree → ℕ
+  unused_of (primitive t c) = slice_index c 0
+  unused_of (constructed t ts) = unused_of_last ts
+
+  pub unused_of_last : Trees → ℕ
+  unused_of_last no_trees = 0
+  unused_of_last (t ∷ₜ no_trees) = unused_of t
+  unused_of_last (t ∷ₜ (u ∷ₜ us)) = unused_of_last (u ∷ₜ us)
+
+-- what counts of a segment; the place of a universal tag is its number
+pub record Outline : Type 0 where
+  pub place : ℕ
+  pub size : Option ℕ
+  pub unused : ℕ
+
+abbrev pub outline : Tree → Outline
+outline u = record { place = place (tag_of u); size = size_of u; unused = unused_of u }
+
+-- the tag of the segments of a string: BIT STRING (8.6.4), or OCTET STRING (8.7.3.2, 8.23.3)
+abbrev pub segment_place : Kind → ℕ
+segment_place kind = if is_bits kind then 3 else 4
+
+abbrev pub HasSegmentTag : Kind → Outline → Type 0
+HasSegmentTag kind v = IsString kind → v.place ≡ segment_place kind
+
+-- 8.6.4: no bits of a segment are unused that isn't the last
+abbrev pub IsBehindWhole : Kind → Option Outline → Type 0
+IsBehindWhole kind None = ⊤
+IsBehindWhole kind (Some u) = is_bits kind ≡ true → u.unused ≡ 0
+
+-- 9.2: in CER a segment is primitive, and has bits or octets; the one before it has 1000 contents octets
+abbrev pub IsSegmentSize : Kind → Option ℕ → Type 0
+IsSegmentSize kind None = ⊥
+IsSegmentSize kind (Some n) = (if is_bits kind then 1 else 0) < n
+
+abbrev pub IsBehindFull : Option Outline → Type 0
+IsBehindFull None = ⊤
+IsBehindFull (Some u) = u.size ≡ Some 1000
+
+abbrev pub IsCut : Mode → Kind → Option Outline → Outline → Type 0
+IsCut mode kind last v = mode ≡ Cer → IsString kind → IsSegmentSize kind v.size × IsBehindFull last
+
+-- 9.2: in CER a string of at most 1000 contents octets isn't cut
+abbrev pub MayEnd : Mode → Kind → Bool → Type 0
+MayEnd mode kind several = mode ≡ Cer → IsString kind → several ≡ true
+
+-- ---- all of it
+
+-- a value may come behind the last one inside a value with this tag
+pub record MayCome (mode : Mode) (t : Tag) (last : Option Tree) (v : Tree) : Type 0 where
+  pub order : InOrder mode t last v
+  pub tag : HasSegmentTag (kind_of t) (outline v)
+  pub unused : IsBehindWhole (kind_of t) (option_map outline last)
+  pub cut : IsCut mode (kind_of t) (option_map outline last) (outline v)
 
 -- the same of each of values inside a value with this tag, the first of which comes behind `last`
 abbrev pub MayComeEach : Mode → Tag → Option Tree → Trees → Type 0
@@ -24,10 +100,10 @@ MayComeEach mode t last no_trees = ⊤
 MayComeEach mode t last (v ∷ₜ vs) = MayCome mode t last v × MayComeEach mode t (Some v) vs
 
 abbrev mutual
-  -- each value inside the value may come behind the one before it
+  -- each value inside the value may come behind the one before it, and the last may be the last
   pub IsInPlace : Mode → Tree → Type 0
   IsInPlace mode (primitive t c) = ⊤
-  IsInPlace mode (constructed t ts) = AreInPlace mode ts × MayComeEach mode t None ts
+  IsInPlace mode (constructed t ts) = AreInPlace mode ts × MayComeEach mode t None ts × MayEnd mode (kind_of t) (are_several ts)
 
   pub AreInPlace : Mode → Trees → Type 0
   AreInPlace mode no_trees = ⊤
@@ -62,7 +138,7 @@ abbrev pub IsPlaced : Mode → List Frame → Piece → Type 0
 IsPlaced mode fs (value t c) = MayComeIn mode fs (primitive t c)
 IsPlaced mode fs (begins t) = ⊤
 IsPlaced mode [] ends = ⊤
-IsPlaced mode (f ∷ fs) ends = MayComeIn mode fs (constructed f.tag f.trees)
+IsPlaced mode (f ∷ fs) ends = MayEnd mode (kind_of f.tag) (are_several f.trees) × MayComeIn mode fs (constructed f.tag f.trees)
 
 abbrev pub ArePlaced : Mode → List Frame → List Piece → Type 0
 ArePlaced mode fs [] = ⊤

@@ -1,11 +1,19 @@
-//! The values around the octets to come, and the order of the values inside each SET.
-ghost use Rattle.std.specs.Prelude.{◌≡◌, ◌≢◌, ◌↔◌, ◌++◌, [], List, ℕ, IsTrue, OnOk, reverse};
-ghost use Rattle.bcder.specs.declared.mode.Mode.TheVariants.{Ber};
+//! The values around the octets to come: the order of the values inside each SET, and the segments of
+//! strings.
+ghost use Rattle.std.specs.Prelude.{◌≡◌, ◌≢◌, ◌↔◌, ◌++◌, [], List, ℕ, IsTrue, OnOk, IfSome, IfNone};
+ghost use Rattle.std.specs.Prelude.{option_map, reverse, slice_index};
+ghost use Rattle.bcder.specs.declared.mode.Mode.TheVariants.{Ber, Cer};
 ghost use Rattle.encodings.specs.Headings.{class_number};
 ghost use Rattle.encodings.specs.Sets.{IsNotAfter, is_set as is_set_meant, place};
-ghost use Rattle.rules.specs.Around.{Adds, Follows, KeepsOrder, TellsOrder, met_meant};
+ghost use Rattle.rules.specs.Around.{Adds, BreaksFit, Fits, Follows, KeepsOrder, Leaves};
+ghost use Rattle.rules.specs.Around.{TellsEnd, TellsFit, element_outline};
+ghost use Rattle.rules.specs.Around.{last_unused as last_unused_meant, met_meant};
+ghost use Rattle.rules.specs.Kinds.{IsString, is_bits as is_bits_meant};
+ghost use Rattle.rules.specs.Placed.{HasSegmentTag, IsBehindFull, IsBehindWhole, IsCut};
+ghost use Rattle.rules.specs.Placed.{IsSegmentSize, MayEnd};
 
 use crate::begun::Begun;
+use crate::kind::{Kind, kind_of};
 use crate::rule::{Breach, Rule};
 use bcder::{Mode, NoMemory, Tag};
 
@@ -14,6 +22,13 @@ use bcder::{Mode, NoMemory, Tag};
 pub(crate) struct Element<'a> {
     /// The place of its tag in the order of tags.
     pub(crate) place: u64,
+
+    /// The number of its contents octets, if it is primitive.
+    pub(crate) size: Option<usize>,
+
+    /// The first contents octet of the last primitive value in it: of a BIT STRING the number of
+    /// unused bits.
+    pub(crate) unused: u8,
 
     /// Its octets.
     pub(crate) octets: &'a [u8],
@@ -28,8 +43,14 @@ pub(crate) struct Enclosing<'a> {
     /// Whether it is a SET.
     pub(crate) sorts: bool,
 
+    /// The kind of its type.
+    pub(crate) kind: Kind,
+
     /// All octets from its first on.
     pub(crate) start: &'a [u8],
+
+    /// Whether two values or more were passed in it.
+    pub(crate) several: bool,
 
     /// The last value that was passed in it.
     pub(crate) last: Option<Element<'a>>,
@@ -38,11 +59,13 @@ pub(crate) struct Enclosing<'a> {
 /// What was passed in a step of the walk.
 #[derive(Clone, Copy)]
 pub(crate) enum Met {
-    /// A primitive value: the place of its tag.
-    Value(u64),
+    /// A primitive value: the place of its tag, the number of its contents octets, and the first of
+    /// them, or 0.
+    Value(u64, usize, u8),
 
-    /// The header of a constructed value: the place of its tag, and whether it is a SET.
-    Begin(u64, bool),
+    /// The header of a constructed value: the place of its tag, whether it is a SET, and the kind of
+    /// its type.
+    Begin(u64, bool, Kind),
 
     /// The end of a constructed value.
     End,
@@ -80,15 +103,25 @@ fn is_set(tag: Tag) -> bool
     tag.is_universal() && tag.number() == 17
 }
 
-/// Returns what a value is told by whose header was passed.
+/// Returns the first of octets, or 0.
+fn first_of(octets: &[u8]) -> u8
+    ensures { result ≡ slice_index octets.now 0 }
+{
+    match octets {
+        [first, ..] => *first,
+        [] => 0,
+    }
+}
+
+/// Returns what is told of a value that was passed, or whose header was.
 pub(crate) fn met_of(begun: &Begun<'_>) -> Met
-    ensures { result ≡ met_meant begun.now.tag begun.now.constructed }
+    ensures { result ≡ met_meant begun.now.tag begun.now.constructed begun.now.contents.now }
 {
     let place = place_of(begun.tag);
     if begun.constructed {
-        Met::Begin(place, is_set(begun.tag))
+        Met::Begin(place, is_set(begun.tag), kind_of(begun.tag))
     } else {
-        Met::Value(place)
+        Met::Value(place, begun.contents.len(), first_of(begun.contents))
     }
 }
 
@@ -135,7 +168,7 @@ fn is_strict(mode: Mode) -> bool
     }
 }
 
-/// Returns whether a value may come behind the last one in an open value.
+/// Returns whether a value inside a SET comes behind the last one (9.3, 10.3, 11.6).
 fn keeps_order(mode: Mode, sorts: bool, last: Option<Element<'_>>, next: Element<'_>) -> bool
     ensures { IsTrue result ↔ KeepsOrder mode sorts last.entry next.entry }
 {
@@ -151,6 +184,136 @@ fn keeps_order(mode: Mode, sorts: bool, last: Option<Element<'_>>, next: Element
     is_not_after(last.octets, next.octets)
 }
 
+/// Returns whether a kind is that of strings, of octets or of bits.
+fn is_string(kind: Kind) -> bool
+    ensures { IsTrue result ↔ IsString kind }
+{
+    match kind {
+        Kind::BitString
+        | Kind::OctetString
+        | Kind::Utf8String
+        | Kind::NumericString
+        | Kind::PrintableString
+        | Kind::Ia5String
+        | Kind::VisibleString
+        | Kind::UniversalString
+        | Kind::BmpString
+        | Kind::UtcTime
+        | Kind::GeneralizedTime => true,
+        Kind::Boolean
+        | Kind::Integer
+        | Kind::Real
+        | Kind::Null
+        | Kind::Identifier
+        | Kind::Structure
+        | Kind::Other => false,
+    }
+}
+
+/// Returns whether a kind is that of BIT STRING.
+fn is_bits(kind: Kind) -> bool
+    ensures { result ≡ is_bits_meant kind }
+{
+    match kind {
+        Kind::BitString => true,
+        _ => false,
+    }
+}
+
+/// Returns whether a value has the tag of the segments of a string (8.6.4, 8.7.3.2).
+fn has_segment_tag(kind: Kind, next: Element<'_>) -> bool
+    ensures { IsTrue result ↔ HasSegmentTag kind (element_outline next.entry) }
+{
+    if !is_string(kind) {
+        return true;
+    }
+    if is_bits(kind) {
+        return next.place == 3;
+    }
+    next.place == 4
+}
+
+/// Returns whether no bits of the last segment of a BIT STRING are unused (8.6.4).
+fn is_behind_whole(kind: Kind, last: Option<Element<'_>>) -> bool
+    ensures { IsTrue result ↔ IsBehindWhole kind (option_map element_outline last.entry) }
+{
+    match last {
+        Some(last) => !is_bits(kind) || last.unused == 0,
+        None => true,
+    }
+}
+
+/// Returns whether a segment has bits or octets.
+fn is_segment_size(kind: Kind, size: Option<usize>) -> bool
+    ensures { IsTrue result ↔ IsSegmentSize kind size }
+{
+    match size {
+        Some(size) => { if is_bits(kind) { size > 1 } else { size > 0 } }
+        None => false,
+    }
+}
+
+/// Returns whether the last segment has 1000 contents octets.
+fn is_behind_full(last: Option<Element<'_>>) -> bool
+    ensures { IsTrue result ↔ IsBehindFull (option_map element_outline last.entry) }
+{
+    match last {
+        Some(last) => match last.size {
+            Some(size) => size == 1000,
+            None => false,
+        },
+        None => true,
+    }
+}
+
+/// Returns whether the mode is CER.
+fn is_cer(mode: Mode) -> bool
+    ensures { IsTrue result ↔ (mode ≡ Cer) }
+{
+    match mode {
+        Mode::Cer => true,
+        Mode::Ber | Mode::Der => false,
+    }
+}
+
+/// Returns whether a segment of a string is as in CER (9.2).
+fn is_cut(mode: Mode, kind: Kind, last: Option<Element<'_>>, next: Element<'_>) -> bool
+    ensures { IsTrue result ↔ IsCut mode kind (option_map element_outline last.entry)
+        (element_outline next.entry) }
+{
+    if !is_cer(mode) || !is_string(kind) {
+        return true;
+    }
+    is_segment_size(kind, next.size) && is_behind_full(last)
+}
+
+/// Returns whether a value may end in which several values were passed, or not (9.2).
+fn may_end(mode: Mode, kind: Kind, several: bool) -> bool
+    ensures { IsTrue result ↔ MayEnd mode kind several }
+{
+    several || !is_cer(mode) || !is_string(kind)
+}
+
+/// Returns the rule by which a value may not come behind the last one in an open value.
+fn misfit(mode: Mode, value: &Enclosing<'_>, next: Element<'_>) -> Option<Rule>
+    ensures some { IfSome result (λ rule. BreaksFit mode value.now next.entry rule) }
+    ensures none { IfNone result (Fits mode value.now next.entry) }
+{
+    if !keeps_order(mode, value.sorts, value.last, next) {
+        return Some(Rule::OutOfOrder);
+    }
+    if !has_segment_tag(value.kind, next) {
+        return Some(Rule::SegmentTag(value.kind));
+    }
+    if !is_behind_whole(value.kind, value.last) {
+        return Some(Rule::SegmentUnused);
+    }
+    if !is_cut(mode, value.kind, value.last, next) {
+        return Some(Rule::SegmentSize);
+    }
+    None
+}
+
 /// Returns the octets before others that follow them.
 fn until<'a>(octets: &'a [u8], behind: &[u8]) -> &'a [u8]
     ensures { (v : List ℕ) → octets.now ≡ v ++ behind.now → result.now ≡ v }
@@ -158,27 +321,53 @@ fn until<'a>(octets: &'a [u8], behind: &[u8]) -> &'a [u8]
     octets.split_at(octets.len().saturating_sub(behind.len())).0
 }
 
-/// Tells a value inside a SET that isn't in order. The octet behind it is at `at`.
-fn tell_order(
+/// Tells a value that may not come behind the last one in an open value. The octet behind it is at
+/// `at`.
+fn tell_misfit(
     mode: Mode,
     contents: bool,
-    around: &[Enclosing<'_>],
+    value: &Enclosing<'_>,
     element: Element<'_>,
     at: usize,
     found: &mut Vec<Breach>,
 ) -> Result<(), NoMemory>
-    ensures { OnOk result (TellsOrder mode contents (reverse around.now) element.entry at
+    ensures { OnOk result (TellsFit mode contents value.now element.entry at
         found.old.items found.new.items) }
 {
-    let [.., innermost] = around else {
-        return Ok(());
-    };
-    if !contents || keeps_order(mode, innermost.sorts, innermost.last, element) {
+    if !contents {
         return Ok(());
     }
+    match misfit(mode, value, element) {
+        Some(rule) => {
+            let at = at.saturating_sub(element.octets.len());
+            if found.push(Breach { at, rule }).is_err() {
+                return Err(NoMemory);
+            }
+            Ok(())
+        }
+        None => Ok(()),
+    }
+}
+
+/// Tells a string that is cut in vain. The octets behind it are `rest`, the first of them at `at`.
+fn tell_end(
+    mode: Mode,
+    contents: bool,
+    value: &Enclosing<'_>,
+    rest: &[u8],
+    at: usize,
+    found: &mut Vec<Breach>,
+) -> Result<(), NoMemory>
+    ensures { OnOk result (TellsEnd mode contents value.now rest.now at
+        found.old.items found.new.items) }
+{
+    if !contents || may_end(mode, value.kind, value.several) {
+        return Ok(());
+    }
+    let at = at.saturating_sub(until(value.start, rest).len());
     let breach = Breach {
-        at: at.saturating_sub(element.octets.len()),
-        rule: Rule::OutOfOrder,
+        at,
+        rule: Rule::SegmentSize,
     };
     if found.push(breach).is_err() {
         return Err(NoMemory);
@@ -186,7 +375,7 @@ fn tell_order(
     Ok(())
 }
 
-/// Passes a value inside the innermost open one, and tells it if it isn't in order.
+/// Passes a value inside the innermost open one, and tells it if it may not come there.
 fn add<'a>(
     mode: Mode,
     contents: bool,
@@ -198,22 +387,59 @@ fn add<'a>(
     ensures { OnOk result (Adds mode contents (reverse around.old.items) element.entry at
         found.old.items (reverse around.new.items) found.new.items) }
 {
-    let Ok(()) = tell_order(mode, contents, around, element, at, found) else {
-        return Err(NoMemory);
-    };
     let Some(innermost) = around.pop() else {
         return Ok(());
+    };
+    let Ok(()) = tell_misfit(mode, contents, &innermost, element, at, found) else {
+        return Err(NoMemory);
     };
     let changed = Enclosing {
         place: innermost.place,
         sorts: innermost.sorts,
+        kind: innermost.kind,
         start: innermost.start,
+        several: innermost.last.is_some(),
         last: Some(element),
     };
     if around.push(changed).is_err() {
         return Err(NoMemory);
     }
     Ok(())
+}
+
+/// Returns the unused bits of a last value.
+fn last_unused(last: Option<Element<'_>>) -> u8
+    ensures { result ≡ last_unused_meant last.entry }
+{
+    match last {
+        Some(last) => last.unused,
+        None => 0,
+    }
+}
+
+/// Passes the end of a value, before the octets `rest`.
+fn leave<'a>(
+    mode: Mode,
+    contents: bool,
+    around: &mut Vec<Enclosing<'a>>,
+    value: Enclosing<'a>,
+    rest: &'a [u8],
+    at: usize,
+    found: &mut Vec<Breach>,
+) -> Result<(), NoMemory>
+    ensures { OnOk result (Leaves mode contents value.entry (reverse around.old.items) rest.now at
+        found.old.items (reverse around.new.items) found.new.items) }
+{
+    let Ok(()) = tell_end(mode, contents, &value, rest, at, found) else {
+        return Err(NoMemory);
+    };
+    let element = Element {
+        place: value.place,
+        size: None,
+        unused: last_unused(value.last),
+        octets: until(value.start, rest),
+    };
+    add(mode, contents, around, element, at, found)
 }
 
 /// Follows a step of the walk from the octets `start` to `rest`, the first of which is at `at`.
@@ -231,18 +457,22 @@ pub(crate) fn follow<'a>(
         rest.entry.now at found.old.items (reverse around.new.items) found.new.items) }
 {
     match met {
-        Met::Value(place) => {
+        Met::Value(place, size, unused) => {
             let element = Element {
                 place,
+                size: Some(size),
+                unused,
                 octets: until(start, rest),
             };
             add(mode, contents, around, element, at, found)
         }
-        Met::Begin(place, sorts) => {
+        Met::Begin(place, sorts, kind) => {
             let value = Enclosing {
                 place,
                 sorts,
+                kind,
                 start,
+                several: false,
                 last: None,
             };
             if around.push(value).is_err() {
@@ -254,11 +484,7 @@ pub(crate) fn follow<'a>(
             let Some(value) = around.pop() else {
                 return Ok(());
             };
-            let element = Element {
-                place: value.place,
-                octets: until(value.start, rest),
-            };
-            add(mode, contents, around, element, at, found)
+            leave(mode, contents, around, value, rest, at, found)
         }
         Met::Lost => Ok(()),
     }

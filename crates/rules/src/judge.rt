@@ -4,7 +4,8 @@ ghost use Rattle.std.specs.Prelude.{ℕ, Bool, IfSome, IfNone, IsTrue, MatchOpti
 ghost use Rattle.bcder.specs.declared.mode.Mode.TheVariants.{Ber, Cer};
 ghost use Rattle.bcder.specs.calls.Readers.{IsTruth};
 ghost use Rattle.bcder.specs.x690.OctetString.{MayBeWhole};
-ghost use Rattle.rules.specs.Broken.{BreaksContents, BreaksForm, BreaksValue, IsPadded, IsString};
+ghost use Rattle.rules.specs.Broken.{BreaksContents, BreaksForm, BreaksValue, IsPadded};
+ghost use Rattle.rules.specs.Kinds.{IsString};
 ghost use Rattle.rules.specs.declared.kind.Kind.TheVariants as k;
 ghost use Rattle.rules.specs.Means.{HasCharacters, IsGeneralizedTimeIn, IsMeantAlone};
 ghost use Rattle.rules.specs.Means.{IsUtcTimeIn};

@@ -10,7 +10,11 @@ mod characters;
 mod judge;
 pub mod kind;
 mod real;
+#[cfg(test)]
+mod rows;
 pub mod rule;
+#[cfg(test)]
+mod tests;
 mod text;
 mod time;
 mod walk;

@@ -35,6 +35,17 @@ pub enum Rule {
     /// these are the same, by their octets (9.3, 10.3, 11.6). Octets don't tell a SET from a SET OF.
     OutOfOrder,
 
+    /// A value inside a constructed string has another tag than its segments: BIT STRING in a BIT
+    /// STRING (8.6.4), and OCTET STRING in all others (8.7.3.2).
+    SegmentTag(Kind),
+
+    /// A segment of a BIT STRING comes behind one with unused bits (8.6.4).
+    SegmentUnused,
+
+    /// In CER, a segment is constructed or empty, or comes behind one of other than 1000 contents
+    /// octets, or a string is constructed that has fewer than two segments (9.2).
+    SegmentSize,
+
     /// A BOOLEAN has not exactly one contents octet (8.2.1).
     BooleanSize,
 

@@ -4,7 +4,7 @@ ghost use Rattle.rules.specs.Texts.{characters_clause, characters_wanted, clause
 ghost use Rattle.rules.specs.Texts.{constructed_text};
 ghost use Rattle.rules.specs.Texts.{header_clause, header_wanted, no_characters};
 ghost use Rattle.rules.specs.Texts.{primitive_clause, time_clause, time_title, time_wanted};
-ghost use Rattle.rules.specs.Texts.{title_of, wanted_of};
+ghost use Rattle.rules.specs.Texts.{segment_clause, segment_wanted, title_of, wanted_of};
 
 use crate::kind::Kind;
 use crate::rule::Rule;
@@ -112,6 +112,26 @@ fn time_wanted(kind: Kind) -> &'static str
     }
 }
 
+/// Returns the clause of the rule that says the tag of segments.
+fn segment_clause(kind: Kind) -> &'static str
+    ensures { result.now ≡ segment_clause kind }
+{
+    match kind {
+        Kind::BitString => "8.6.4",
+        _ => "8.7.3.2",
+    }
+}
+
+/// Returns the tag of segments.
+fn segment_wanted(kind: Kind) -> &'static str
+    ensures { result.now ≡ segment_wanted kind }
+{
+    match kind {
+        Kind::BitString => "a BIT STRING",
+        _ => "an OCTET STRING",
+    }
+}
+
 /// Returns the clause of a rule of headers.
 fn header_clause(violation: Violation, mode: Mode) -> &'static str
     ensures { result.now ≡ header_clause violation mode }
@@ -170,6 +190,9 @@ impl Rule {
             Rule::NotConstructed => "primitive SEQUENCE, SET or the like",
             Rule::StringCut => "constructed string in DER",
             Rule::OutOfOrder => "value in a SET out of order",
+            Rule::SegmentTag(_) => "value in a string that isn't a segment",
+            Rule::SegmentUnused => "segment behind unused bits",
+            Rule::SegmentSize => "segments of another size",
             Rule::BooleanSize => "BOOLEAN not of one octet",
             Rule::BooleanValue => "BOOLEAN neither 00 nor FF",
             Rule::IntegerEmpty => "INTEGER of no octets",
@@ -207,6 +230,9 @@ impl Rule {
                 Mode::Cer => "9.3, 11.6",
                 Mode::Ber | Mode::Der => "10.3, 11.6",
             },
+            Rule::SegmentTag(kind) => segment_clause(kind),
+            Rule::SegmentUnused => "8.6.4",
+            Rule::SegmentSize => "9.2",
             Rule::BooleanSize => "8.2.1",
             Rule::BooleanValue => "11.1",
             Rule::IntegerEmpty => "8.3.1",
@@ -238,6 +264,11 @@ impl Rule {
             Rule::NotPrimitive(_) | Rule::StringCut => "a primitive encoding",
             Rule::NotConstructed => "a constructed encoding",
             Rule::OutOfOrder => "a value that comes behind the one in front of it",
+            Rule::SegmentTag(kind) => segment_wanted(kind),
+            Rule::SegmentUnused => "a segment behind one of whole octets",
+            Rule::SegmentSize => {
+                "primitive segments, of 1000 octets but for the last, and two at least"
+            }
             Rule::BooleanSize => "one octet",
             Rule::BooleanValue => "00 or FF",
             Rule::IntegerEmpty => "an octet or more",

@@ -455,12 +455,12 @@ fn go_on<'a>(
 }
 
 /// Returns what octets break that are to be encodings of values in the mode, one after the other,
-/// and, if `contents`, what their contents octets break, and the order of the values inside each
-/// SET. There is nothing exactly if they are.
+/// and, if `contents`, what their contents octets, the segments of strings and the order of the
+/// values inside each SET break. There is nothing exactly if they are.
 ///
-/// Octets don't tell a SET from a SET OF: its values have to be in the order of their tags, and those
-/// with the same tag in the order of their octets. This order, as [`encodings::sets`] makes it, is
-/// looked at up to the first octet that breaks a rule of headers.
+/// Octets don't tell a SET from a SET OF: its values have to be in the order of their tags, and
+/// those with the same tag in the order of their octets, as [`encodings::sets`] puts them. Order and
+/// segments are looked at up to the first octet that breaks a rule of headers.
 ///
 /// ```text
 /// breaches(alloc, Mode::Der, true, &[0x30, 0x03, 0x01, 0x01, 0x01])   // at 4: BooleanValue
