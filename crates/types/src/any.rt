@@ -1,5 +1,5 @@
 //! One value of whatever type. Expected values are worked by hand from X.690, 8.1.
-use crate::rows::{Read, Written, reads, reads_and_rewrites, takes};
+use crate::rows::{Read, Written, done, is_shown, reads, reads_and_rewrites, shown, takes};
 use asn1::{Any, Choice2, Context, Decode, Explicit, Sequence, decode, encode};
 use bcder::decode::BytesSource;
 use bcder::encode::EncodeError;
@@ -201,9 +201,8 @@ const MODES: [(Mode, Mode, &str); 9] = [
 const NULL: [u8; 2] = [0x05, 0x00];
 
 /// Returns what becomes of a value that is kept in one mode when it is written in another.
-fn written(rt: &impl Abort, alloc: Global, kept: Mode, mode: Mode) -> &'static str {
-    let value = decode::<Any, &[u8]>(alloc, kept, &NULL).expect(rt, "refused");
-    match encode(alloc, mode, &value) {
+fn written(rt: &impl Abort, alloc: Global, first: Mode, mode: Mode) -> &'static str {
+    match encode(alloc, mode, &kept(rt, alloc, first, &NULL)) {
         Ok(octets) if octets.as_slice() == NULL.as_slice() => "kept",
         Ok(_) => "changed",
         Err(EncodeError::CapturedMode) => "refused",
@@ -213,31 +212,37 @@ fn written(rt: &impl Abort, alloc: Global, kept: Mode, mode: Mode) -> &'static s
 
 #[test]
 fn it_is_written_in_its_own_mode(rt: HostRuntime) {
-    for (kept, mode, wanted) in &MODES {
-        let found = written(&rt, rt.alloc(), *kept, *mode);
-        assert_eq!(rt; found, *wanted, "{kept:?} in {mode:?}");
+    for (first, mode, wanted) in &MODES {
+        let found = written(&rt, rt.alloc(), *first, *mode);
+        assert_eq!(rt; found, *wanted, "{first:?} in {mode:?}");
     }
+}
+
+/// Keeps a value.
+fn kept(rt: &impl Abort, alloc: Global, mode: Mode, octets: &[u8]) -> Any {
+    done(rt, decode::<Any, &[u8]>(alloc, mode, octets))
 }
 
 /// Asserts how what is kept is shown once it is decoded as a value of a type.
 fn decodes<T: Decode<BytesSource> + Debug>(rt: &impl Abort, alloc: Global, rows: &[Read<'_>]) {
     for (mode, octets, wanted) in rows {
-        let value = decode::<Any, &[u8]>(alloc, *mode, octets).expect(rt, "refused");
-        let text = match value.decode_as::<T>(alloc) {
-            Ok(value) => format!(in alloc; "{value:?}").expect(rt, "no memory"),
-            Err(_) => format!(in alloc; "refused").expect(rt, "no memory"),
-        };
-        assert_eq!(rt; text.as_str(), *wanted, "{octets:?} in {mode:?}");
+        let value = kept(rt, alloc, *mode, octets).decode_as::<T>(alloc).ok();
+        let found = shown(rt, alloc, value, "refused");
+        is_shown(rt, *mode, octets, found.as_str(), wanted);
     }
+}
+
+/// Encodes a number, and keeps that.
+fn captured(rt: &impl Abort, alloc: Global) -> Any {
+    let octets = done(rt, encode(alloc, Mode::Der, &5_u32));
+    done(rt, decode::<Any, Captured>(alloc, Mode::Der, octets))
 }
 
 #[test]
 fn a_value_is_encoded_and_kept(rt: HostRuntime) {
-    let alloc = rt.alloc();
-    let octets = encode(alloc, Mode::Der, &5_u32).expect(&rt, "refused");
-    let value = decode::<Any, Captured>(alloc, Mode::Der, octets).expect(&rt, "refused");
-    assert!(&rt; value.as_slice() == [0x02, 0x01, 0x05].as_slice());
-    assert!(&rt; value.mode() == Mode::Der);
+    let value = captured(&rt, rt.alloc());
+    assert_eq!(rt; value.as_slice(), [0x02, 0x01, 0x05].as_slice());
+    assert!(rt; value.mode() == Mode::Der);
 }
 
 const NUMBERS: [Read; 3] = [

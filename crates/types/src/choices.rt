@@ -1,7 +1,8 @@
 //! CHOICE. Expected values are worked by hand from X.690, 8.13.
-use crate::rows::{Read, Written, reads, rewrites, takes};
+use crate::rows::{Again, Read, come_back, reads, takes};
 use asn1::{Choice2, Choice3, Choice4, Context, Implicit, Sequence};
-use bcder::Mode;
+use bcder::string::Utf8String;
+use bcder::{Integer, Mode, OctetString};
 
 /// `CHOICE { INTEGER, [0] IMPLICIT INTEGER }`.
 type Either = Choice2<u32, Implicit<Context<0>, u32>>;
@@ -76,26 +77,107 @@ fn one_of_more_is_read(rt: HostRuntime) {
     reads::<One3>(&rt, rt.alloc(), &ONE_OF_THREE);
 }
 
-const WRITTEN: [Written; 9] = [
-    (&[0x01, 0x01, 0xFF], Mode::Ber, &[0x01, 0x01, 0xFF]),
-    (&[0x01, 0x01, 0xFF], Mode::Der, &[0x01, 0x01, 0xFF]),
-    (&[0x01, 0x01, 0xFF], Mode::Cer, &[0x01, 0x01, 0xFF]),
-    (&[0x02, 0x01, 0x07], Mode::Ber, &[0x02, 0x01, 0x07]),
-    (&[0x02, 0x01, 0x07], Mode::Der, &[0x02, 0x01, 0x07]),
-    (&[0x02, 0x01, 0x07], Mode::Cer, &[0x02, 0x01, 0x07]),
-    (&[0x05, 0x00], Mode::Ber, &[0x05, 0x00]),
-    (&[0x05, 0x00], Mode::Der, &[0x05, 0x00]),
-    (&[0x05, 0x00], Mode::Cer, &[0x05, 0x00]),
+/// `CHOICE { yes BOOLEAN, many INTEGER, name OCTET STRING }`.
+type OneOfThree = Choice3<bool, u32, OctetString>;
+
+const OF_THREE: [Again; 9] = [
+    (
+        Mode::Der,
+        &[0x01, 0x01, 0x00],
+        Mode::Der,
+        &[0x01, 0x01, 0x00],
+    ),
+    (
+        Mode::Ber,
+        &[0x01, 0x01, 0xFF],
+        Mode::Ber,
+        &[0x01, 0x01, 0xFF],
+    ),
+    (
+        Mode::Ber,
+        &[0x01, 0x01, 0xFF],
+        Mode::Der,
+        &[0x01, 0x01, 0xFF],
+    ),
+    (
+        Mode::Ber,
+        &[0x01, 0x01, 0xFF],
+        Mode::Cer,
+        &[0x01, 0x01, 0xFF],
+    ),
+    (
+        Mode::Ber,
+        &[0x02, 0x01, 0x07],
+        Mode::Ber,
+        &[0x02, 0x01, 0x07],
+    ),
+    (
+        Mode::Ber,
+        &[0x02, 0x01, 0x07],
+        Mode::Der,
+        &[0x02, 0x01, 0x07],
+    ),
+    (
+        Mode::Ber,
+        &[0x02, 0x01, 0x07],
+        Mode::Cer,
+        &[0x02, 0x01, 0x07],
+    ),
+    (
+        Mode::Der,
+        &[0x02, 0x01, 0x05],
+        Mode::Der,
+        &[0x02, 0x01, 0x05],
+    ),
+    (
+        Mode::Der,
+        &[0x04, 0x01, 0x07],
+        Mode::Der,
+        &[0x04, 0x01, 0x07],
+    ),
 ];
 
-const TAGGED: [Written; 3] = [
-    (&[0x80, 0x01, 0x09], Mode::Ber, &[0x80, 0x01, 0x09]),
-    (&[0x80, 0x01, 0x09], Mode::Der, &[0x80, 0x01, 0x09]),
-    (&[0x80, 0x01, 0x09], Mode::Cer, &[0x80, 0x01, 0x09]),
+/// `CHOICE { many INTEGER, none NULL, name UTF8String, few [0] IMPLICIT INTEGER }`.
+type OneOfFour = Choice4<Integer, (), Utf8String, Implicit<Context<0>, u32>>;
+
+const OF_FOUR: [Again; 8] = [
+    (
+        Mode::Der,
+        &[0x02, 0x02, 0xFF, 0x00],
+        Mode::Der,
+        &[0x02, 0x02, 0xFF, 0x00],
+    ),
+    (Mode::Ber, &[0x05, 0x00], Mode::Ber, &[0x05, 0x00]),
+    (Mode::Ber, &[0x05, 0x00], Mode::Der, &[0x05, 0x00]),
+    (Mode::Ber, &[0x05, 0x00], Mode::Cer, &[0x05, 0x00]),
+    (
+        Mode::Der,
+        &[0x0C, 0x01, 0x41],
+        Mode::Der,
+        &[0x0C, 0x01, 0x41],
+    ),
+    (
+        Mode::Ber,
+        &[0x80, 0x01, 0x09],
+        Mode::Ber,
+        &[0x80, 0x01, 0x09],
+    ),
+    (
+        Mode::Ber,
+        &[0x80, 0x01, 0x09],
+        Mode::Der,
+        &[0x80, 0x01, 0x09],
+    ),
+    (
+        Mode::Ber,
+        &[0x80, 0x01, 0x09],
+        Mode::Cer,
+        &[0x80, 0x01, 0x09],
+    ),
 ];
 
 #[test]
 fn the_value_of_a_choice_is_written(rt: HostRuntime) {
-    rewrites::<Choice3<bool, u32, ()>>(&rt, rt.alloc(), &WRITTEN);
-    rewrites::<Choice4<bool, u32, (), Implicit<Context<0>, u32>>>(&rt, rt.alloc(), &TAGGED);
+    come_back::<OneOfThree>(&rt, rt.alloc(), &OF_THREE);
+    come_back::<OneOfFour>(&rt, rt.alloc(), &OF_FOUR);
 }

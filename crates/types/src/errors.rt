@@ -105,7 +105,7 @@ impl DefaultValue<bool> for No {
     }
 }
 
-/// The parts of a `Report`.
+/// What defines [`Report`].
 type ReportParts = Sequence<
     (
         Range,
@@ -127,14 +127,18 @@ struct Report {
     last: Option<Implicit<Context<1>, Range>>,
 }
 
-impl Definition for Report {
+impl Parts for Report {
     type As = ReportParts;
+
+    type Tags = SequenceTag;
 
     const NAME: &'static str = "Report";
 
     const PARTS: &'static [&'static str] = &["range", "exact", "others", "answer", "last"];
 
     ghost parts = { λ x. (x.range, x.exact, x.others, x.answer, x.last) };
+
+    ghost typed = { ⟦<ReportParts as Type>⟧ };
 
     fn from_parts(value: ReportParts) -> Report {
         let Sequence((range, exact, others, answer, last)) = value;
@@ -146,9 +150,22 @@ impl Definition for Report {
             last,
         }
     }
+
+    fn parts_are_one() {
+        <ReportParts>::values_are_one();
+    }
 }
 
-impl<S: Source> DecodeDefinition<S> for Report {}
+impl<S: Source> DecodeParts<S> for Report {
+    fn trace_parts<P: Trace>(
+        alloc: Global,
+        cons: &mut Constructed<'_, S>,
+        tag: Tag,
+        path: &mut P,
+    ) -> Result<Option<ReportParts>, DecodeError<S::Error>> {
+        <ReportParts>::trace_opt_if(alloc, cons, tag, path)
+    }
+}
 
 /// `Unnamed ::= SEQUENCE { range Range, flag BOOLEAN }`, without names.
 #[derive(Debug, Drop)]
@@ -544,18 +561,19 @@ fn types_need_no_names(rt: HostRuntime) {
     explains::<SequenceOf<Sequence<(u8, Box<bool>)>>>(&rt, alloc, &PAIRS);
 }
 
+/// Returns the position of an error of octets, if their content was refused.
+fn position(error: &TypeError) -> Option<usize> {
+    match (error.position(), error.error.content_error()) {
+        (Some(position), Some(_)) => Some(usize::from(position)),
+        _ => None,
+    }
+}
+
 #[test]
 fn an_error_has_a_position(rt: HostRuntime) {
     let octets: &[u8] = &[0x30, 0x04, 0x02, 0x02, 0x01, 0x00];
-    let read: Result<Range, TypeError> = decode_octets(rt.alloc(), Mode::Der, octets);
-    match read {
+    match decode_octets::<Range>(rt.alloc(), Mode::Der, octets) {
         Ok(_) => panic!(rt; "read"),
-        Err(error) => {
-            match error.position() {
-                Some(position) => assert_eq!(rt; usize::from(position), 4),
-                None => panic!(rt; "no position"),
-            }
-            assert!(rt; error.error.content_error().is_some());
-        }
+        Err(error) => assert_eq!(rt; position(&error), Some(4)),
     }
 }

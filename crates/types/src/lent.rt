@@ -1,5 +1,5 @@
 //! Octets that are lent (X.690, 8.7, 9.2).
-use crate::rows::{Read, Written, reads, reads_and_rewrites};
+use crate::rows::{Read, Written, done, reads, reads_and_rewrites};
 use asn1::{
     Ia5StringRef, NumericStringRef, OctetStringRef, PrintableStringRef, Utf8StringRef, decode,
     encode,
@@ -41,21 +41,21 @@ fn lent_octets_are_read_and_written(rt: HostRuntime) {
     reads_and_rewrites::<OctetStringRef<&[u8]>>(&rt, rt.alloc(), &LENT, &WRITTEN);
 }
 
+/// Returns how many octets are written of lent ones.
+fn encoded_len(alloc: Global, mode: Mode, octets: &[u8]) -> Option<usize> {
+    match encode(alloc, mode, &OctetStringRef(octets)) {
+        Ok(encoded) => Some(encoded.as_slice().len()),
+        Err(_) => None,
+    }
+}
+
 #[test]
 fn long_octets_are_written(rt: HostRuntime) {
-    let alloc = rt.alloc();
     let zeros = [0u8; 1001];
-    let long = OctetStringRef(zeros.as_slice());
     // 24 80, 04 82 03 E8 and 1000 octets, 04 01 and one octet, 00 00
-    match encode(alloc, Mode::Cer, &long) {
-        Ok(encoded) => assert_eq!(rt; encoded.as_slice().len(), 1011),
-        Err(_) => panic!(rt; "refused"),
-    }
+    assert_eq!(rt; encoded_len(rt.alloc(), Mode::Cer, &zeros), Some(1011));
     // 04 82 03 E9 and 1001 octets
-    match encode(alloc, Mode::Der, &long) {
-        Ok(encoded) => assert_eq!(rt; encoded.as_slice().len(), 1005),
-        Err(_) => panic!(rt; "refused"),
-    }
+    assert_eq!(rt; encoded_len(rt.alloc(), Mode::Der, &zeros), Some(1005));
 }
 
 /// The header of an OCTET STRING of 1001 octets in one piece, and of one of 1000.
@@ -133,10 +133,11 @@ const TEXTS: [Written; 2] = [
 #[test]
 fn lent_characters_are_text(rt: HostRuntime) {
     let octets: &[u8] = &[0x0C, 0x02, 0xC3, 0xA4];
-    match decode::<Utf8StringRef<&[u8]>, _>(rt.alloc(), Mode::Der, octets) {
-        Ok(string) => assert_eq!(rt; string.as_str(), "\u{e4}"),
-        Err(_) => panic!(rt; "refused"),
-    }
+    let string = done(
+        &rt,
+        decode::<Utf8StringRef<&[u8]>, _>(rt.alloc(), Mode::Der, octets),
+    );
+    assert_eq!(rt; string.as_str(), "\u{e4}");
     assert!(rt; Utf8StringRef::new(&octets[2..]).is_ok());
     assert!(rt; Utf8StringRef::new(&octets[2..3]).is_err());
 }

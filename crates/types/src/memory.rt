@@ -70,28 +70,46 @@ fn take_mixed<S: Source>(
 mod tests {
     use super::{range_of, take_mixed};
     use bcder::Mode;
-    use bcder::decode::SliceSource;
+    use std::alloc::Global;
+
+    /// Octets, and the range that they are. The second number of the second has no contents octets
+    /// (X.690, 8.3.1).
+    const RANGES: [(&[u8], Option<(u32, Option<u32>)>); 2] = [
+        (
+            &[0x30, 0x06, 0x02, 0x01, 0x05, 0x02, 0x01, 0x07],
+            Some((5, Some(7))),
+        ),
+        (&[0x30, 0x05, 0x02, 0x01, 0x05, 0x02, 0x00], None),
+    ];
+
+    /// Returns the range that octets are.
+    fn range(alloc: Global, octets: &[u8]) -> Option<(u32, Option<u32>)> {
+        match range_of(alloc, Mode::Der, octets) {
+            Ok(range) => Some((range.from, range.until)),
+            Err(_) => None,
+        }
+    }
 
     #[test]
     fn a_range_is_read(rt: HostRuntime) {
-        let octets: &[u8] = &[0x30, 0x06, 0x02, 0x01, 0x05, 0x02, 0x01, 0x07];
-        let range = range_of(rt.alloc(), Mode::Der, octets).expect(&rt, "refused");
-        assert_eq!(rt; range.from, 5);
-        assert_eq!(rt; range.until, Some(7));
-        // the second number has no contents octets (X.690, 8.3.1)
-        let octets: &[u8] = &[0x30, 0x05, 0x02, 0x01, 0x05, 0x02, 0x00];
-        assert!(rt; range_of(rt.alloc(), Mode::Der, octets).is_err());
+        for (octets, wanted) in &RANGES {
+            assert_eq!(rt; range(rt.alloc(), octets), *wanted, "{octets:?}");
+        }
+    }
+
+    /// Returns the numbers of the mixed value that octets are.
+    fn mixed(alloc: Global, octets: &[u8]) -> Option<(i64, u128)> {
+        match Mode::Der.decode(octets, |cons| take_mixed(alloc, cons)) {
+            Ok(Some(mixed)) => Some((mixed.0.1.value, mixed.0.2.value)),
+            _ => None,
+        }
     }
 
     #[test]
     fn a_mixed_value_is_taken(rt: HostRuntime) {
-        let alloc = rt.alloc();
         let octets: &[u8] = &[
             0x30, 0x0B, 0x01, 0x01, 0xFF, 0xA0, 0x03, 0x02, 0x01, 0x80, 0x81, 0x01, 0x07,
         ];
-        let taken = Mode::Der.decode(SliceSource::new(octets), |cons| take_mixed(alloc, cons));
-        let mixed = taken.expect(&rt, "refused").expect(&rt, "none");
-        assert_eq!(rt; mixed.0.1.value, -128);
-        assert_eq!(rt; mixed.0.2.value, 7);
+        assert_eq!(rt; mixed(rt.alloc(), octets), Some((-128, 7)));
     }
 }

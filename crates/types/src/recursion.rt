@@ -1,12 +1,14 @@
 //! A type that holds itself: a value inside is an `Any`, and each level is decoded by a call.
 //! Expected values are worked by hand from X.690, 8.12 to 8.14.
-ghost use Rattle.asn1.specs.declared.choice.Choice4.TheVariants.{One, Two, Three, Four};
+ghost use Rattle.asn1.specs.declared.choice.Choice2.TheVariants.{One, Two};
 
+use crate::rows::done;
 use asn1::{
-    Any, Choice4, Context, DecodeDefinition, Definition, Explicit, Implicit, SetOf, decode,
+    Any, Choice2, Context, Decode, DecodeParts, Explicit, Implicit, Parts, SetOf, Trace, Type,
+    decode,
 };
-use bcder::decode::{DecodeError, Source};
-use bcder::{Mode, OctetString};
+use bcder::decode::{Constructed, DecodeError, Source};
+use bcder::{Mode, OctetString, Tag};
 use std::alloc::Global;
 use std::convert::Infallible;
 use std::process::Abort;
@@ -28,39 +30,51 @@ enum Level {
 
 ghost use Rattle.types.specs.declared.recursion.Level.TheVariants.{And, Or, Not, Present};
 
-impl Definition for Level {
-    type As = Choice4<
-        Implicit<Context<0>, SetOf<Any>>,
-        Implicit<Context<1>, SetOf<Any>>,
-        Explicit<Context<2>, Any>,
-        Implicit<Context<7>, OctetString>,
-    >;
+/// What defines [`Level`]. A CHOICE of two CHOICEs has the encodings of one of their four types
+/// (X.690, 8.13).
+type LevelParts = Choice2<
+    Choice2<Implicit<Context<0>, SetOf<Any>>, Implicit<Context<1>, SetOf<Any>>>,
+    Choice2<Explicit<Context<2>, Any>, Implicit<Context<7>, OctetString>>,
+>;
+
+impl Parts for Level {
+    type As = LevelParts;
+
+    type Tags = LevelParts;
 
     ghost parts = { elim [
-      | And xs ↦ One xs
-      | Or xs ↦ Two xs
-      | Not x ↦ Three x
-      | Present x ↦ Four x
+      | And xs ↦ One (One xs)
+      | Or xs ↦ One (Two xs)
+      | Not x ↦ Two (One x)
+      | Present x ↦ Two (Two x)
     ] };
 
-    fn from_parts(
-        value: Choice4<
-            Implicit<Context<0>, SetOf<Any>>,
-            Implicit<Context<1>, SetOf<Any>>,
-            Explicit<Context<2>, Any>,
-            Implicit<Context<7>, OctetString>,
-        >,
-    ) -> Level {
+    ghost typed = { ⟦<LevelParts as Type>⟧ };
+
+    fn from_parts(value: LevelParts) -> Level {
         match value {
-            Choice4::One(all) => Level::And(all.value),
-            Choice4::Two(some) => Level::Or(some.value),
-            Choice4::Three(part) => Level::Not(part.value),
-            Choice4::Four(name) => Level::Present(name.value),
+            Choice2::One(Choice2::One(all)) => Level::And(all.value),
+            Choice2::One(Choice2::Two(some)) => Level::Or(some.value),
+            Choice2::Two(Choice2::One(part)) => Level::Not(part.value),
+            Choice2::Two(Choice2::Two(name)) => Level::Present(name.value),
         }
+    }
+
+    fn parts_are_one() {
+        <LevelParts>::values_are_one();
     }
 }
 
-impl<S: Source> DecodeDefinition<S> for Level {}
+impl<S: Source> DecodeParts<S> for Level {
+    fn trace_parts<P: Trace>(
+        alloc: Global,
+        cons: &mut Constructed<'_, S>,
+        tag: Tag,
+        path: &mut P,
+    ) -> Result<Option<LevelParts>, DecodeError<S::Error>> {
+        <LevelParts>::trace_opt_if(alloc, cons, tag, path)
+    }
+}
 
 /// A filter with all its levels.
 #[derive(Debug, Drop)]
@@ -154,21 +168,24 @@ const FILTERS: [(&[u8], &str); 8] = [
     (&[0xA0, 0x03, 0x87, 0x02, 0x63], "refused"),
 ];
 
+/// Reads a filter of at most three levels.
+fn read(alloc: Global, octets: &[u8]) -> Result<Filter, NoFilter> {
+    match decode::<Any, &[u8]>(alloc, Mode::Ber, octets) {
+        Ok(value) => filter_of(alloc, value, 3),
+        Err(error) => Err(NoFilter::Octets(error)),
+    }
+}
+
 /// Returns how what was read is shown, with octets alone for a string.
 fn shown(rt: &impl Abort, alloc: Global, octets: &[u8]) -> String {
-    let text = match decode::<Any, &[u8]>(alloc, Mode::Ber, octets) {
-        Ok(value) => match filter_of(alloc, value, 3) {
-            Ok(filter) => format!(in alloc; "{filter:?}"),
-            Err(NoFilter::Octets(_)) => format!(in alloc; "refused"),
-            Err(error) => format!(in alloc; "{error:?}"),
-        },
-        Err(_) => format!(in alloc; "refused"),
+    let text = match read(alloc, octets) {
+        Ok(filter) => format!(in alloc; "{filter:?}"),
+        Err(NoFilter::Octets(_)) => format!(in alloc; "refused"),
+        Err(error) => format!(in alloc; "{error:?}"),
     };
-    let text = text.expect(rt, "no memory");
-    let text = text
-        .replace(alloc, "OctetString { octets: Whole(b", "")
-        .expect(rt, "no memory");
-    text.replace(alloc, ") }", "").expect(rt, "no memory")
+    let text = done(rt, text);
+    let text = done(rt, text.replace(alloc, "OctetString { octets: Whole(b", ""));
+    done(rt, text.replace(alloc, ") }", ""))
 }
 
 #[test]

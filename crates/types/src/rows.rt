@@ -1,8 +1,13 @@
 //! Rows of data, and the loops over them.
+ghost use Rattle.std.specs.Prelude.{IsTrue};
+ghost use Rattle.bcder.specs.declared.mode.Mode.{Mode as Rules};
+
 use crate::cut::{Cut, IsCut};
-use asn1::{Decode, Encode, decode, decode_octets, encode};
+use asn1::laws::round_trip;
+use asn1::{Clear, Decode, Encode, TypeError, decode, decode_octets, encode};
 use bcder::Mode;
-use bcder::decode::{DecodeError, SliceSource, Source};
+use bcder::decode::{BytesSource, DecodeError, SliceSource, Source};
+use bytes::Bytes;
 use std::alloc::Global;
 use std::fmt::Debug;
 use std::process::Abort;
@@ -14,13 +19,22 @@ pub type Read<'a> = (Mode, &'a [u8], &'a str);
 /// Octets that are read in BER, and as which octets the value is written in a mode.
 pub type Written<'a> = (&'a [u8], Mode, &'a [u8]);
 
+/// Octets in a mode, and as which octets their value is written in a mode, also once it has been
+/// encoded in that mode and decoded.
+pub type Again<'a> = (Mode, &'a [u8], Mode, &'a [u8]);
+
 /// Returns the result of a call that must not be refused.
-fn done<T, E: Debug>(rt: &impl Abort, outcome: Result<T, E>) -> T {
+pub fn done<T, E: Debug>(rt: &impl Abort, outcome: Result<T, E>) -> T {
     outcome.expect(rt, "refused")
 }
 
 /// Returns how what was read is shown, without the marks of types that are tagged.
-fn shown<T: Debug + Drop>(rt: &impl Abort, alloc: Global, value: Option<T>, other: &str) -> String {
+pub fn shown<T: Debug + Drop>(
+    rt: &impl Abort,
+    alloc: Global,
+    value: Option<T>,
+    other: &str,
+) -> String {
     match value {
         Some(value) => {
             let text = done(rt, format!(in alloc; "{value:?}"));
@@ -31,7 +45,7 @@ fn shown<T: Debug + Drop>(rt: &impl Abort, alloc: Global, value: Option<T>, othe
 }
 
 /// Asserts that what was read is shown as this text.
-fn is_shown(rt: &impl Abort, mode: Mode, octets: &[u8], found: &str, wanted: &str) {
+pub fn is_shown(rt: &impl Abort, mode: Mode, octets: &[u8], found: &str, wanted: &str) {
     assert_eq!(rt; found, wanted, "{octets:?} in {mode:?}");
 }
 
@@ -53,13 +67,18 @@ pub fn reads<'a, T: Decode<SliceSource<'a>> + Debug>(
     }
 }
 
+/// Returns how an error shows itself, or `read`.
+fn explained(rt: &impl Abort, alloc: Global, error: Option<TypeError>) -> String {
+    match error {
+        Some(error) => done(rt, format!(in alloc; "{error}")),
+        None => done(rt, format!(in alloc; "read")),
+    }
+}
+
 /// Asserts that the octets of each row are refused with an error that shows itself so, or `read`.
 pub fn explains<'a, T: Decode<SliceSource<'a>>>(rt: &impl Abort, alloc: Global, rows: &[Read<'a>]) {
     for (mode, octets, wanted) in rows {
-        let found = match decode_octets::<T>(alloc, *mode, octets) {
-            Ok(_) => done(rt, format!(in alloc; "read")),
-            Err(error) => done(rt, format!(in alloc; "{error}")),
-        };
+        let found = explained(rt, alloc, decode_octets::<T>(alloc, *mode, octets).err());
         is_shown(rt, *mode, octets, found.as_str(), wanted);
     }
 }
@@ -161,5 +180,30 @@ pub fn rewrites<'a, T: Encode + Decode<SliceSource<'a>>>(
     for (octets, mode, wanted) in rows {
         let value = done(rt, decode::<T, &'a [u8]>(alloc, Mode::Ber, octets));
         writes(rt, alloc, &value, *mode, wanted);
+    }
+}
+
+/// Reads octets, which must be a value of the type.
+pub fn value<T: Decode<BytesSource>>(
+    rt: &impl Abort,
+    alloc: Global,
+    mode: Mode,
+    octets: &[u8],
+) -> T {
+    let octets = done(rt, Bytes::copy_from_slice(alloc, octets));
+    done(rt, decode::<T, Bytes>(alloc, mode, octets))
+}
+
+/// Reads the octets of each row, writes the value, and does so again with what `round_trip`
+/// returns. The checker finds out that each value comes back.
+pub fn come_back<T: Clear + Decode<BytesSource>>(rt: &impl Abort, alloc: Global, rows: &[Again<'_>])
+    requires distinct { IsTrue T.distinct }
+    requires always { (mode : Rules) → IsTrue (T.always_clear mode) }
+{
+    for (mode, octets, other, wanted) in rows {
+        let x = value::<T>(rt, alloc, *mode, octets);
+        writes(rt, alloc, &x, *other, wanted);
+        let y = done(rt, round_trip(alloc, *other, &x));
+        writes(rt, alloc, &y, *other, wanted);
     }
 }

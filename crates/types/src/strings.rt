@@ -1,9 +1,10 @@
 //! Octet strings, bit strings and restricted character strings.
-use crate::rows::{Read, Written, reads, reads_and_rewrites};
+use crate::rows::{Read, Written, done, reads, reads_and_rewrites};
 use asn1::decode;
 use bcder::string::{Ia5String, NumericString, PrintableString, Utf8String};
 use bcder::{BitString, Mode, OctetString};
 use std::alloc::Global;
+use std::process::Abort;
 
 const OCTETS: [Read; 5] = [
     (
@@ -32,22 +33,16 @@ fn octet_strings_are_read(rt: HostRuntime) {
     reads::<OctetString>(&rt, rt.alloc(), &OCTETS);
 }
 
-/// Returns whether both are octet strings with the same octets, in BER.
-fn are_same(alloc: Global, one: &[u8], other: &[u8]) -> bool {
-    match (
-        decode::<OctetString, &[u8]>(alloc, Mode::Ber, one),
-        decode::<OctetString, &[u8]>(alloc, Mode::Ber, other),
-    ) {
-        (Ok(one), Ok(other)) => one == other,
-        _ => false,
-    }
+/// Reads an octet string in BER.
+fn read(rt: &impl Abort, alloc: Global, octets: &[u8]) -> OctetString {
+    done(rt, decode::<OctetString, &[u8]>(alloc, Mode::Ber, octets))
 }
 
 #[test]
 fn cut_octet_strings_are_read(rt: HostRuntime) {
     let cut: &[u8] = &[0x24, 0x06, 0x04, 0x01, 0x07, 0x04, 0x01, 0x08];
     let whole: &[u8] = &[0x04, 0x02, 0x07, 0x08];
-    assert!(rt; are_same(rt.alloc(), cut, whole));
+    assert!(rt; read(&rt, rt.alloc(), cut) == read(&rt, rt.alloc(), whole));
 }
 
 const BITS: [Read; 8] = [

@@ -1,5 +1,6 @@
 //! A SEQUENCE that holds values of its own type, read and written with a limit of levels.
 //! Expected values are worked by hand from X.690, 8.9 and 8.10.
+use crate::rows::done;
 use asn1::{Any, ByRef, Sequence, SequenceOf, decode, encode};
 use bcder::Mode;
 use bcder::decode::DecodeError;
@@ -187,7 +188,7 @@ fn shown(rt: &impl Abort, alloc: Global, mode: Mode, octets: &[u8]) -> String {
         Err(NoTree::Octets(_)) => format!(in alloc; "refused"),
         Err(error) => format!(in alloc; "{error:?}"),
     };
-    text.expect(rt, "no memory")
+    done(rt, text)
 }
 
 #[test]
@@ -198,14 +199,18 @@ fn trees_hold_trees(rt: HostRuntime) {
     }
 }
 
+/// Returns whether a tree isn't written, as it has more levels than it may have.
+fn is_too_deep(alloc: Global, mode: Mode, tree: &Tree, levels: u32) -> bool {
+    matches!(written(alloc, mode, tree, levels), Err(NoTree::TooDeep))
+}
+
 /// Asserts that a tree that is read is written as the same octets, and not if it has more levels
 /// than it may have.
 fn is_written(rt: &impl Abort, alloc: Global, mode: Mode, octets: &[u8], levels: u32) {
     if let Ok(tree) = read(alloc, mode, octets) {
-        let again = written(alloc, mode, &tree, levels).expect(rt, "unwritten");
+        let again = done(rt, written(alloc, mode, &tree, levels));
         assert_eq!(rt; again.as_slice(), octets, "in {mode:?}");
-        let deep = written(alloc, mode, &tree, 0);
-        assert!(rt; matches!(deep, Err(NoTree::TooDeep)));
+        assert!(rt; is_too_deep(alloc, mode, &tree, 0));
     }
 }
 
@@ -219,7 +224,6 @@ fn trees_are_written(rt: HostRuntime) {
 #[test]
 fn a_tree_that_is_too_deep_is_not_written(rt: HostRuntime) {
     let (mode, octets, _) = TREES[2];
-    let tree = read(rt.alloc(), mode, octets).expect(&rt, "unread");
-    let deep = written(rt.alloc(), mode, &tree, 2);
-    assert!(rt; matches!(deep, Err(NoTree::TooDeep)));
+    let tree = done(&rt, read(rt.alloc(), mode, octets));
+    assert!(rt; is_too_deep(rt.alloc(), mode, &tree, 2));
 }
