@@ -68,6 +68,8 @@ fn add_universal(
         add_null(manner, text, octets)
     } else if tag == Tag::OID {
         identifier::add(manner, text, octets)
+    } else if tag == Tag::RELATIVE_OID {
+        identifier::add_relative(manner, text, octets)
     } else if tag == Tag::UTC_TIME {
         time::add_utc(manner, text, octets)
     } else if tag == Tag::GENERALIZED_TIME {

@@ -16,7 +16,7 @@ pub(crate) enum Table {
     /// Those of countries' organizations: algorithms of NIST, Netscape (2.16).
     Countries,
 
-    /// The others of ISO and ITU-T: WAP, TCG, ICAO, CA/Browser Forum (2).
+    /// The others of ISO and ITU-T: SET, WAP, TCG, ICAO, CA/Browser Forum (2).
     Joint,
 
     /// PKCS #9, S/MIME and CMS (1.2.840.113549.1.9; RFC 2985, RFC 7107).
@@ -332,9 +332,140 @@ const COUNTRIES: &str = "2.16.840.1.101.3.4.1.1 aes-128-ecb
 2.16.840.1.113730.3.4.18 proxiedAuthorizationControl
 2.16.840.1.113730.4.1 Netscape Server Gated Crypto";
 
-/// The others of ISO and ITU-T: WAP, TCG, ICAO, CA/Browser Forum (2).
+/// The others of ISO and ITU-T: SET, WAP, TCG, ICAO, CA/Browser Forum (2).
 const JOINT: &str = "2.5 directory services (X.500)
 2.23 International Organizations
+2.23.42 Secure Electronic Transactions
+2.23.42.0 content types
+2.23.42.0.0 setct-PANData
+2.23.42.0.1 setct-PANToken
+2.23.42.0.2 setct-PANOnly
+2.23.42.0.3 setct-OIData
+2.23.42.0.4 setct-PI
+2.23.42.0.5 setct-PIData
+2.23.42.0.6 setct-PIDataUnsigned
+2.23.42.0.7 setct-HODInput
+2.23.42.0.8 setct-AuthResBaggage
+2.23.42.0.9 setct-AuthRevReqBaggage
+2.23.42.0.10 setct-AuthRevResBaggage
+2.23.42.0.11 setct-CapTokenSeq
+2.23.42.0.12 setct-PInitResData
+2.23.42.0.13 setct-PI-TBS
+2.23.42.0.14 setct-PResData
+2.23.42.0.16 setct-AuthReqTBS
+2.23.42.0.17 setct-AuthResTBS
+2.23.42.0.18 setct-AuthResTBSX
+2.23.42.0.19 setct-AuthTokenTBS
+2.23.42.0.20 setct-CapTokenData
+2.23.42.0.21 setct-CapTokenTBS
+2.23.42.0.22 setct-AcqCardCodeMsg
+2.23.42.0.23 setct-AuthRevReqTBS
+2.23.42.0.24 setct-AuthRevResData
+2.23.42.0.25 setct-AuthRevResTBS
+2.23.42.0.26 setct-CapReqTBS
+2.23.42.0.27 setct-CapReqTBSX
+2.23.42.0.28 setct-CapResData
+2.23.42.0.29 setct-CapRevReqTBS
+2.23.42.0.30 setct-CapRevReqTBSX
+2.23.42.0.31 setct-CapRevResData
+2.23.42.0.32 setct-CredReqTBS
+2.23.42.0.33 setct-CredReqTBSX
+2.23.42.0.34 setct-CredResData
+2.23.42.0.35 setct-CredRevReqTBS
+2.23.42.0.36 setct-CredRevReqTBSX
+2.23.42.0.37 setct-CredRevResData
+2.23.42.0.38 setct-PCertReqData
+2.23.42.0.39 setct-PCertResTBS
+2.23.42.0.40 setct-BatchAdminReqData
+2.23.42.0.41 setct-BatchAdminResData
+2.23.42.0.42 setct-CardCInitResTBS
+2.23.42.0.43 setct-MeAqCInitResTBS
+2.23.42.0.44 setct-RegFormResTBS
+2.23.42.0.45 setct-CertReqData
+2.23.42.0.46 setct-CertReqTBS
+2.23.42.0.47 setct-CertResData
+2.23.42.0.48 setct-CertInqReqTBS
+2.23.42.0.49 setct-ErrorTBS
+2.23.42.0.50 setct-PIDualSignedTBE
+2.23.42.0.51 setct-PIUnsignedTBE
+2.23.42.0.52 setct-AuthReqTBE
+2.23.42.0.53 setct-AuthResTBE
+2.23.42.0.54 setct-AuthResTBEX
+2.23.42.0.55 setct-AuthTokenTBE
+2.23.42.0.56 setct-CapTokenTBE
+2.23.42.0.57 setct-CapTokenTBEX
+2.23.42.0.58 setct-AcqCardCodeMsgTBE
+2.23.42.0.59 setct-AuthRevReqTBE
+2.23.42.0.60 setct-AuthRevResTBE
+2.23.42.0.61 setct-AuthRevResTBEB
+2.23.42.0.62 setct-CapReqTBE
+2.23.42.0.63 setct-CapReqTBEX
+2.23.42.0.64 setct-CapResTBE
+2.23.42.0.65 setct-CapRevReqTBE
+2.23.42.0.66 setct-CapRevReqTBEX
+2.23.42.0.67 setct-CapRevResTBE
+2.23.42.0.68 setct-CredReqTBE
+2.23.42.0.69 setct-CredReqTBEX
+2.23.42.0.70 setct-CredResTBE
+2.23.42.0.71 setct-CredRevReqTBE
+2.23.42.0.72 setct-CredRevReqTBEX
+2.23.42.0.73 setct-CredRevResTBE
+2.23.42.0.74 setct-BatchAdminReqTBE
+2.23.42.0.75 setct-BatchAdminResTBE
+2.23.42.0.76 setct-RegFormReqTBE
+2.23.42.0.77 setct-CertReqTBE
+2.23.42.0.78 setct-CertReqTBEX
+2.23.42.0.79 setct-CertResTBE
+2.23.42.0.80 setct-CRLNotificationTBS
+2.23.42.0.81 setct-CRLNotificationResTBS
+2.23.42.0.82 setct-BCIDistributionTBS
+2.23.42.1 message extensions
+2.23.42.1.1 generic cryptogram
+2.23.42.1.3 merchant initiated auth
+2.23.42.1.4 setext-pinSecure
+2.23.42.1.5 setext-pinAny
+2.23.42.1.7 setext-track2
+2.23.42.1.8 additional verification
+2.23.42.3 set-attr
+2.23.42.3.0 setAttr-Cert
+2.23.42.3.0.0 set-rootKeyThumb
+2.23.42.3.0.1 set-addPolicy
+2.23.42.3.1 payment gateway capabilities
+2.23.42.3.2 setAttr-TokenType
+2.23.42.3.2.1 setAttr-Token-EMV
+2.23.42.3.2.2 setAttr-Token-B0Prime
+2.23.42.3.3 issuer capabilities
+2.23.42.3.3.3 setAttr-IssCap-CVM
+2.23.42.3.3.3.1 generate cryptogram
+2.23.42.3.3.4 setAttr-IssCap-T2
+2.23.42.3.3.4.1 encrypted track 2
+2.23.42.3.3.4.2 cleartext track 2
+2.23.42.3.3.5 setAttr-IssCap-Sig
+2.23.42.3.3.5.1 ICC or token signature
+2.23.42.3.3.5.2 secure device signature
+2.23.42.5 set-policy
+2.23.42.5.0 set-policy-root
+2.23.42.7 certificate extensions
+2.23.42.7.0 setCext-hashedRoot
+2.23.42.7.1 setCext-certType
+2.23.42.7.2 setCext-merchData
+2.23.42.7.3 setCext-cCertRequired
+2.23.42.7.4 setCext-tunneling
+2.23.42.7.5 setCext-setExt
+2.23.42.7.6 setCext-setQualf
+2.23.42.7.7 setCext-PGWYcapabilities
+2.23.42.7.8 setCext-TokenIdentifier
+2.23.42.7.9 setCext-Track2Data
+2.23.42.7.10 setCext-TokenType
+2.23.42.7.11 setCext-IssuerCapabilities
+2.23.42.8 set-brand
+2.23.42.8.1 set-brand-IATA-ATA
+2.23.42.8.4 set-brand-Visa
+2.23.42.8.5 set-brand-MasterCard
+2.23.42.8.30 set-brand-Diners
+2.23.42.8.34 set-brand-AmericanExpress
+2.23.42.8.35 set-brand-JCB
+2.23.42.8.6011 set-brand-Novus
 2.23.43 wap
 2.23.43.1 wap-wsg
 2.23.43.1.4.1 wap-wsg-idm-ecid-wtls1
@@ -593,6 +724,7 @@ const UNITED_STATES: &str = "1.2.840.10040 X9.57
 1.2.840.10045.4.3.4 ecdsa-with-SHA512
 1.2.840.10046.2.1 X9.42 DH
 1.2.840.48018.1.2.2 ms-krb5
+1.2.840.113533.7.65.0 entrustVersInfo
 1.2.840.113533.7.66.10 cast5-cbc
 1.2.840.113533.7.66.12 pbeWithMD5AndCast5CBC
 1.2.840.113533.7.66.13 password based MAC

@@ -5,7 +5,7 @@ use encodings::identifier::store_text;
 use encodings::status::DONE;
 use names::name_of;
 
-/// The number of octets of the longest identifier whose largest components are shown in decimal.
+/// The number of octets of the longest identifier whose large components are shown in decimal.
 const LONGEST: usize = 1000;
 
 /// Returns the octets of an identifier's number, such as `2.5.4.3`. There are none if a component
@@ -30,26 +30,52 @@ fn add_number(text: &mut String, number: &str) -> Result<(), NoMemory> {
     Ok(())
 }
 
-/// Appends the number of an identifier with a component of more than 128 bits, or its octets if
-/// they are so many that they would take long.
-fn add_large(manner: Manner, text: &mut String, octets: &[u8]) -> Result<(), NoMemory> {
+/// Appends the number of an identifier with components of any size, or its octets if they are so
+/// many that they would take long.
+fn add_large(
+    manner: Manner,
+    text: &mut String,
+    relative: bool,
+    octets: &[u8],
+) -> Result<(), NoMemory> {
     if octets.len() > LONGEST {
         return hexadecimal::add(manner, text, octets);
     }
     write!(text, " :")?;
-    large::add_components(manner.alloc, text, octets)
+    large::add_components(manner.alloc, text, relative, octets)
+}
+
+/// Appends octets that are none of an identifier, and why they aren't.
+fn add_faulty(
+    manner: Manner,
+    text: &mut String,
+    octets: &[u8],
+    fault: &'static str,
+) -> Result<(), NoMemory> {
+    hexadecimal::add(manner, text, octets)?;
+    add_fault(text, Some(fault))
 }
 
 /// Appends what contents octets of an OBJECT IDENTIFIER mean.
 pub(crate) fn add(manner: Manner, text: &mut String, octets: &[u8]) -> Result<(), NoMemory> {
-    let fault = fault::identifier(octets);
-    if fault.is_some() {
-        hexadecimal::add(manner, text, octets)?;
-        return add_fault(text, fault);
+    if let Some(fault) = fault::identifier(octets) {
+        return add_faulty(manner, text, octets, fault);
     }
     let number = number_of(manner, octets)?;
     match str::from_utf8(&number) {
         Ok(number) if !number.is_empty() => add_number(text, number),
-        _ => add_large(manner, text, octets),
+        _ => add_large(manner, text, false, octets),
+    }
+}
+
+/// Appends what contents octets of a RELATIVE-OID mean (8.20).
+pub(crate) fn add_relative(
+    manner: Manner,
+    text: &mut String,
+    octets: &[u8],
+) -> Result<(), NoMemory> {
+    match fault::identifier(octets) {
+        Some(fault) => add_faulty(manner, text, octets, fault),
+        None => add_large(manner, text, true, octets),
     }
 }
