@@ -1,4 +1,7 @@
 //! Object identifiers.
+ghost use Rattle.std.specs.Prelude.{◌≡◌, ◌⊎◌, ℕ, List, [], IfOk};
+ghost use Rattle.encodings.specs.Identifiers.{HasText};
+
 use crate::note::{Manner, add_fault, fault, hexadecimal, large};
 use bcder::NoMemory;
 use encodings::identifier::store_text;
@@ -10,13 +13,16 @@ const LONGEST: usize = 1000;
 
 /// Returns the octets of an identifier's number, such as `2.5.4.3`. There are none if a component
 /// has more than 128 bits.
-fn number_of(manner: Manner, octets: &[u8]) -> Result<Vec<u8>, NoMemory> {
+fn number_of(manner: Manner, octets: &[u8]) -> Result<Vec<u8>, NoMemory>
+    ensures { IfOk result (λ number. HasText octets.now number.items
+        ⊎ (number.items ≡ []) × ((t : List ℕ) → HasText octets.now t → ⊥)) }
+{
     let mut number = Vec::new(manner.alloc);
     let mut size = 0;
     let _room = store_text(octets, &mut number, &mut size);
     number.resize(size, 0u8)?;
     if store_text(octets, &mut number, &mut size) != DONE {
-        number.clear();
+        return Ok(Vec::new(manner.alloc));
     }
     Ok(number)
 }
