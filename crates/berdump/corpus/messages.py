@@ -361,13 +361,16 @@ def resources():
     roa = sequence(integer(64496), sequence(
         sequence(octets(b"\0\1"), sequence(prefix("10.64.0.0/12", 24), prefix("192.0.2.0/24"), prefix("0.0.0.0/0"))),
         sequence(octets(b"\0\2"), sequence(prefix("2001:db8::/32", 48), prefix("2001:db8:8000::/33")))))
-    manifest = sequence(integer(2**159 - 1), TIME, generalized_time("19940611060317Z"), oid("2.16.840.1.101.3.4.2.1"), sequence(
-        *(sequence(ia5(name), bits(hashed)) for name in ("ca.crl", "a-roa.roa", "gb.gbr"))))
+    manifest = sequence(
+        integer(2**159 - 1), TIME, generalized_time("19940611060317Z"), oid("2.16.840.1.101.3.4.2.1"),
+        sequence(*(sequence(ia5(name), bits(hashed)) for name in ("ca.crl", "a-roa.roa", "gb.gbr"))))
     card = "BEGIN:VCARD\r\nVERSION:4.0\r\nFN:Human's Name\r\nEMAIL:human@example.com\r\nEND:VCARD\r\n"
     checklist = sequence(
         sequence(context(0, sequence(context(0, sequence(integer(64496), sequence(integer(64500), integer(64511))))))),
-        sequence(oid("2.16.840.1.101.3.4.2.1")), sequence(sequence(ia5("file.txt"), octets(hashed)), sequence(octets(hashed))))
-    types = {"roa": (24, roa), "manifest": (26, manifest), "ghostbusters": (35, card.encode()), "checklist": (48, checklist)}
+        sequence(oid("2.16.840.1.101.3.4.2.1")),
+        sequence(sequence(ia5("file.txt"), octets(hashed)), sequence(octets(hashed))))
+    types = {"roa": (24, roa), "manifest": (26, manifest), "ghostbusters": (35, card.encode()),
+             "checklist": (48, checklist)}
     return {name: (f"1.2.840.113549.1.9.16.1.{number}", contents) for name, (number, contents) in types.items()}
 
 
@@ -398,14 +401,15 @@ def attribute_certificates():
     hashed = sequence(context(2, enumerated(0), sequence(oid("2.16.840.1.101.3.4.2.1")), bits(bytes(32))))
     role = typed("2.5.4.72", sequence(context(0, directory("Roles")), context(1, context_octets(6, "urn:role:admin"))))
     group = typed("1.3.6.1.5.5.7.10.4", sequence(sequence(utf8("staff"), octets(b"\0\1"), oid("2.999.8"))))
-    access = typed("1.3.6.1.5.5.7.10.2", sequence(context_octets(2, "host.example.com"), context_octets(1, "user@example.com"),
-                                                  octets("secret")))
+    access = typed("1.3.6.1.5.5.7.10.2", sequence(
+        context_octets(2, "host.example.com"), context_octets(1, "user@example.com"), octets("secret")))
     clearance = typed("2.5.4.55", sequence(oid("2.999.9"), bits(bytes([0b00101000]), 3)))
+    identity = "1.3.6.1.5.5.7.1.4", True, octets(b"\7")
+    targets = "2.5.29.55", True, sequence(sequence(context(0, context_octets(2, "example.com"))))
     return {
         "role": attribute_certificate(base, [role], ("2.5.29.56", False, NULL)),
         "group": attribute_certificate(named, [group], serial=2**159 - 1),
-        "several": attribute_certificate(hashed, [access, group, clearance, role], ("1.3.6.1.5.5.7.1.4", True, octets(b"\7")),
-                                         ("2.5.29.55", True, sequence(sequence(context(0, context_octets(2, "example.com")))))),
+        "several": attribute_certificate(hashed, [access, group, clearance, role], identity, targets),
     }
 
 
@@ -413,9 +417,11 @@ def attribute_certificates():
 
 
 def cms():
-    recipient = context(2, integer(4), sequence(octets(b"\xc0\xff")), sequence(oid("2.16.840.1.101.3.4.1.5")), octets(bytes(24)))
-    for name, attributes in (("bare", []), ("with_attributes", [context(2, typed("1.2.840.113549.1.9.3", oid("1.2.840.113549.1.7.1")),
-                                                                        typed("1.2.840.113549.1.9.4", octets(bytes(32))))])):
+    recipient = context(2, integer(4), sequence(octets(b"\xc0\xff")), sequence(oid("2.16.840.1.101.3.4.1.5")),
+                        octets(bytes(24)))
+    authentic = context(2, typed("1.2.840.113549.1.9.3", oid("1.2.840.113549.1.7.1")),
+                        typed("1.2.840.113549.1.9.4", octets(bytes(32))))
+    for name, attributes in (("bare", []), ("with_attributes", [authentic])):
         yield f"authenticated_{name}", sequence(oid("1.2.840.113549.1.9.16.1.2"), context(0, sequence(
             integer(0), set_of(recipient), sequence(oid("1.2.840.113549.2.9"), NULL),
             *[context(1, oid("2.16.840.1.101.3.4.2.1"))] * bool(attributes),

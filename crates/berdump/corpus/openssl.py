@@ -225,11 +225,12 @@ SUBJECTS = {
     "utf8": ("utf8only", "/C=DE/O=Grüße/CN=Жюль Верн/L=東京/ST=🔑"),
     "bmp": ("MASK:0x800", "/O=Grüße/CN=Жюль Верн/L=東京"),
     "teletex": ("MASK:0x4", "/O=Grüße/CN=Teletex"),
-    "attributes": ("utf8only", "/C=US/ST=CA/L=City/street=Road 1/postalCode=12345/O=Org/OU=Unit/CN=Name/SN=Surname/GN=Given"
-                               "/initials=G.S./generationQualifier=III/title=Dr./pseudonym=P/dnQualifier=q/serialNumber=7"
+    "attributes": ("utf8only", "/C=US/ST=CA/L=City/street=Road 1/postalCode=12345/O=Org/OU=Unit/CN=Name/SN=Surname"
+                               "/GN=Given/initials=G.S./generationQualifier=III/title=Dr./pseudonym=P/dnQualifier=q"
+                               "/serialNumber=7"
                                "/emailAddress=user@example.com/UID=user/DC=example/DC=com/description=d/name=n"
                                "/businessCategory=Private Organization/jurisdictionC=US/jurisdictionST=Delaware"
-                               "/jurisdictionL=Dover/telephoneNumber=+1 555/houseIdentifier=7/organizationIdentifier=VATDE-1"
+                               "/jurisdictionL=Dover/organizationIdentifier=VATDE-1"
                                "/x500UniqueIdentifier=8/unstructuredName=u/unstructuredAddress=a/dmdName=dmd/role=r"),
     "several": ("utf8only", "/DC=com+O=Several+CN=in one/OU=a+OU=b"),
     "long": ("utf8only", "/O=" + "o" * 64 + "/CN=" + "c" * 64),
@@ -348,12 +349,12 @@ class Maker:
         self.write("serial", serial or f"{0x1000 + self.serial:X}")
         self.write("extensions", f"[more]\n{extensions}\n" + CONFIGURATION)
         self.write("request.cnf", CONFIGURATION.replace("utf8only", mask))
-        digest = f" -{digest}" if digest else ""
-        self.run(f"req -new -utf8 -config request.cnf -key {key}.key -out request.pem{digest}", "-subj", subject)
+        signed = f"-{digest}" if digest else ""
+        self.run(f"req -new -utf8 -config request.cnf -key {key}.key -out request.pem {signed}", "-subj", subject)
         signer = f"-cert {issuer}.pem -keyfile {issuer}.key" if issuer else f"-selfsign -keyfile {key}.key"
-        self.run(f"ca -batch -notext -utf8 -preserveDN -config openssl.cnf -in request.pem -out {name}.pem -startdate {begin} "
-                 f"-enddate {end} {signer} {'-md' + digest.replace(' -', ' ') if digest else '-md null'} {more} "
-                 "-extfile extensions -extensions more")
+        self.run("ca -batch -notext -utf8 -preserveDN -config openssl.cnf -extfile extensions -extensions more "
+                 f"-in request.pem -out {name}.pem -startdate {begin} -enddate {end} -md {digest or 'null'} "
+                 f"{signer} {more}")
 
     def put_certificate(self, name, *words, **options):
         try:
@@ -395,7 +396,6 @@ def certificates(maker):
         maker.put_certificate(f"extension_{name}", "p384", extensions=lines, issuer="authority")
     for name, (mask, subject) in SUBJECTS.items():
         maker.put_certificate(f"subject_{name}", "p384", subject, mask=mask, issuer="authority")
-    maker.put_certificate("version_1", "p384", issuer="authority", more="-extensions none")
     # UTCTime up to 2049, GeneralizedTime from 2050 on (RFC 5280, 4.1.2.5)
     for name, begin, end in (("1950", "500101000000Z", "491231235959Z"), ("2050", "20491231235959Z", "20500101000000Z"),
                              ("9999", "20240229000000Z", "99991231235959Z")):
@@ -417,9 +417,9 @@ def requests(maker):
     texts = {
         "challenge": "attributes=more\n[more]\nchallengePassword=secret\nunstructuredName=A name",
         "utf8": "attributes=more\n[more]\nchallengePassword=Grüße\n1.3.6.1.4.1.311.13.2.3=10.0.19045.2",
-        "extensions": "req_extensions=more\n[more]\nsubjectAltName=DNS:example.com,IP:192.0.2.1\nkeyUsage=digitalSignature",
-        "both": "attributes=more\nreq_extensions=others\n[more]\nchallengePassword=x\n[others]\nbasicConstraints=CA:FALSE\n"
-                "subjectKeyIdentifier=hash",
+        "extensions": "req_extensions=more\n[more]\nsubjectAltName=DNS:example.com,IP:192.0.2.1\nkeyUsage=keyAgreement",
+        "both": "attributes=more\nreq_extensions=others\n[more]\nchallengePassword=x\n[others]\n"
+                "basicConstraints=CA:FALSE\nsubjectKeyIdentifier=hash",
     }
     for name, text in texts.items():
         maker.write("request.cnf", CONFIGURATION.replace("[asked]", f"{text}\n[asked]"))
@@ -517,7 +517,8 @@ def cms(maker):
         "signed_pss_20": f"-nodetach {by['rsa']} -keyopt rsa_padding_mode:pss -keyopt rsa_pss_saltlen:20",
         "signed_cades": f"-nodetach -cades {by['rsa']}",
         "signed_receipt": f"-nodetach {by['rsa']} -receipt_request_to user@example.com -receipt_request_all",
-        "signed_receipt_from": f"-nodetach {by['rsa']} -receipt_request_to a@example.com -receipt_request_from b@example.com",
+        "signed_receipt_from": f"-nodetach {by['rsa']} -receipt_request_to a@example.com "
+                               "-receipt_request_from b@example.com",
         "signed_type": f"-nodetach -econtent_type 1.2.840.113549.1.9.16.1.4 {by['rsa']}",
         "signed_own_type": f"-nodetach -econtent_type 2.999.5 {by['p256']}",
     }
@@ -537,16 +538,17 @@ def cms(maker):
         "enveloped_to_password": "-encrypt -binary -aes-128-cbc -pwri_password password",
         "encrypted": "-EncryptedData_encrypt -binary -aes-128-cbc -secretkey 000102030405060708090a0b0c0d0e0f",
         "encrypted_des3": "-EncryptedData_encrypt -binary -des3 -secretkey " + "0123456789abcdef" * 3,
-        **{f"digested_{it}": f"-digest_create -binary -md {it}" for it in ("md5", "sha1", "sha256", "sha512", "sha3-512")},
+        **{f"digested_{it}": f"-digest_create -binary -md {it}"
+           for it in ("md5", "sha1", "sha256", "sha512", "sha3-512")},
         "data": "-data_create -binary", "compressed_by_openssl": "-compress -binary",
     })
     for name, words in made.items():
         old = " -provider default -provider legacy" * name.endswith(("rc2", "seed"))
         maker.put(f"cms/{name}", f"cms {words} -in text -outform DER{old}")
-    streamed = ["signed_rsa", "signed_by_two", "signed_by_four", "detached", "detached_by_two", "signed_bare", "signed_cades",
-                "signed_own_type", "enveloped_aes-128-cbc", "enveloped_aes-256-gcm", "enveloped_to_three",
-                "enveloped_to_password", "enveloped_to_key", "encrypted", "digested_sha256", "digested_sha512", "data",
-                "compressed_by_openssl"]
+    streamed = ["signed_rsa", "signed_by_two", "signed_by_four", "detached", "detached_by_two", "signed_bare",
+                "signed_cades", "signed_own_type", "enveloped_aes-128-cbc", "enveloped_aes-256-gcm",
+                "enveloped_to_three", "enveloped_to_password", "enveloped_to_key", "encrypted", "digested_sha256",
+                "digested_sha512", "data", "compressed_by_openssl"]
     for name in streamed:
         for what in ("text", "long"):
             maker.put(f"streamed/{name}_{what}", f"cms {made[name]} -in {what} -stream -outform DER", ending="ber")
@@ -555,7 +557,7 @@ def cms(maker):
     maker.put("cms/signed_again", f"cms -resign -inform DER -in signed {by['dsa']} -outform DER")
     maker.run(f"cms {made['signed_receipt']} -in text -outform DER -out signed")
     maker.put("cms/receipt", f"cms -sign_receipt -inform DER -in signed {by['p256']} -outform DER")
-    maker.put("cms/certificates_alone", "cms -sign -binary -signer rsa.pem -inkey rsa.key -nodetach -in empty -outform DER")
+    maker.put("cms/signed_nothing", f"cms -sign -binary -nodetach {by['rsa']} -in empty -outform DER")
 
 
 def pkcs_7(maker):
@@ -570,7 +572,8 @@ def pkcs_7(maker):
         "signed_bare": "smime -sign -binary -nodetach -noattr -nocerts -signer rsa.pem -inkey rsa.key -in text",
         "signed_by_two": "smime -sign -binary -nodetach -signer rsa.pem -inkey rsa.key -signer p256.pem "
                          "-inkey p256.key -in text",
-        **{f"enveloped_{it}": f"smime -encrypt -binary -{it} -in text" for it in ("des3", "aes128", "aes256", "camellia128")},
+        **{f"enveloped_{it}": f"smime -encrypt -binary -{it} -in text"
+           for it in ("des3", "aes128", "aes256", "camellia128")},
     }
     for name, words in made.items():
         last = ["rsa.pem"] if name.startswith("enveloped") else []
@@ -596,13 +599,15 @@ def keys(maker):
 def encrypted_keys(maker):
     """Encrypted keys in PKCS #8, with the ways of PKCS #5 (RFC 8018) and PKCS #12 (RFC 7292, appendix C)."""
     ways = {
-        "default": "", "aes128": "-v2 aes-128-cbc", "aes192": "-v2 aes-192-cbc", "aes256_sha1": "-v2 aes-256-cbc -v2prf hmacWithSHA1",
-        "aes256_sha512": "-v2 aes-256-cbc -v2prf hmacWithSHA512 -iter 1", "des3": "-v2 des3", "camellia": "-v2 camellia-256-cbc",
-        "aria": "-v2 aria-128-cbc", "des": "-v2 des-cbc", "rc2": "-v2 rc2-cbc", "scrypt": "-scrypt -scrypt_N 1024 -scrypt_r 8 -scrypt_p 16",
-        "iterated": "-iter 1000000", **{it.lower(): f"-v1 {it}" for it in (
-            "PBE-MD5-DES", "PBE-SHA1-DES", "PBE-MD5-RC2-64", "PBE-SHA1-RC2-64", "PBE-SHA1-3DES", "PBE-SHA1-2DES",
-            "PBE-SHA1-RC2-40", "PBE-SHA1-RC2-128", "PBE-SHA1-RC4-40", "PBE-SHA1-RC4-128")},
+        "default": "", "aes128": "-v2 aes-128-cbc", "aes192": "-v2 aes-192-cbc",
+        "aes256_sha1": "-v2 aes-256-cbc -v2prf hmacWithSHA1",
+        "aes256_sha512": "-v2 aes-256-cbc -v2prf hmacWithSHA512 -iter 1",
+        "camellia": "-v2 camellia-256-cbc", "aria": "-v2 aria-128-cbc", "des3": "-v2 des3", "des": "-v2 des-cbc",
+        "rc2": "-v2 rc2-cbc", "scrypt": "-scrypt -scrypt_N 1024 -scrypt_r 8 -scrypt_p 16", "iterated": "-iter 1000000",
     }
+    old = ("PBE-MD5-DES", "PBE-SHA1-DES", "PBE-MD5-RC2-64", "PBE-SHA1-RC2-64", "PBE-SHA1-3DES", "PBE-SHA1-2DES",
+           "PBE-SHA1-RC2-40", "PBE-SHA1-RC2-128", "PBE-SHA1-RC4-40", "PBE-SHA1-RC4-128")
+    ways.update({it.lower(): f"-v1 {it}" for it in old})
     for name, words in ways.items():
         maker.put(f"encrypted_keys/{name}", f"pkcs8 -topk8 -in p256.key -passout pass:secret -outform DER {words} "
                                             "-provider default -provider legacy")
@@ -615,7 +620,8 @@ def pkcs_12(maker):
         "mac_sha512": "-macalg sha512 -iter 1", "mac_md5": "-macalg md5", "mac_none": "-nomac", "mac_once": "-nomaciter",
         "legacy": "-legacy", "des3": "-keypbe PBE-SHA1-3DES -certpbe PBE-SHA1-3DES", "rc2": "-certpbe PBE-SHA1-RC2-40",
         "rc4": "-keypbe PBE-SHA1-RC4-128 -certpbe PBE-SHA1-RC4-128", "plain": "-keypbe NONE -certpbe NONE",
-        "aes128": "-keypbe AES-128-CBC -certpbe AES-128-CBC", "camellia": "-keypbe CAMELLIA-256-CBC -certpbe CAMELLIA-128-CBC",
+        "aes128": "-keypbe AES-128-CBC -certpbe AES-128-CBC",
+        "camellia": "-keypbe CAMELLIA-256-CBC -certpbe CAMELLIA-128-CBC",
         "machine": "-LMK", "usage": "-keyex", "usage_signature": "-keysig", "key_alone": "-nocerts",
         "certificate_alone": "-nokeys", "many_rounds": "-iter 100000",
     }
@@ -623,7 +629,8 @@ def pkcs_12(maker):
         key = "" if name == "certificate_alone" else "-inkey p256.key"
         maker.put(f"pkcs_12/{name}", f"pkcs12 -export -in p256.pem {key} -passout pass:secret {words} "
                                      "-provider default -provider legacy")
-    for name, words in (("named", ["-name", "A friendly name"]), ("named_utf8", ["-name", "Grüße 東京", "-caname", "Жюль"]),
+    for name, words in (("named", ["-name", "A friendly name"]),
+                        ("named_utf8", ["-name", "Grüße 東京", "-caname", "Жюль"]),
                         ("provider", ["-CSP", "Microsoft Enhanced Cryptographic Provider v1.0"])):
         maker.put(f"pkcs_12/{name}", "pkcs12 -export -in rsa.pem -inkey rsa.key -certfile authority.pem "
                                      "-passout pass:secret", *words)
@@ -642,7 +649,8 @@ def parameters(maker):
     for name in ("ffdhe2048", "ffdhe8192", "modp_2048"):
         maker.put(f"parameters/dh_{name}", f"genpkey -genparam -algorithm DH -pkeyopt group:{name} -outform DER")
     for number in (1, 2, 3):
-        maker.put(f"parameters/dhx_{number}", f"genpkey -genparam -algorithm DHX -pkeyopt dh_rfc5114:{number} -outform DER")
+        maker.put(f"parameters/dhx_{number}",
+                  f"genpkey -genparam -algorithm DHX -pkeyopt dh_rfc5114:{number} -outform DER")
 
 
 def stamps(maker):
@@ -665,8 +673,8 @@ def stamps(maker):
 def management(maker):
     """CMP (RFC 4210) and CRMF (RFC 4211): a client's messages, and those of openssl's mock server."""
     maker.run("req -new -key p256.key -out request.pem", "-subj", "/CN=asked")
-    common = ("cmp -config extensions -section none -use_mock_srv -rsp_cert p256.pem -recipient /CN=server -subject /CN=new "
-              "-newkey p256.key -certout made.pem -implicit_confirm")
+    common = ("cmp -config extensions -section none -use_mock_srv -rsp_cert p256.pem -recipient /CN=server "
+              "-subject /CN=new -newkey p256.key -certout made.pem -implicit_confirm")
     secret = "-srv_ref user -srv_secret pass:test -ref user -secret pass:test"
     signed = ("-srv_cert p256.pem -srv_key p256.key -srv_trusted authority.pem -trusted authority.pem -cert p256.pem "
               "-key p256.key -ignore_keyusage")
