@@ -9,3 +9,4 @@ pub mod Reals
 pub mod Cases
 pub mod Placing
 pub mod Following
+pub mod Agreeing

@@ -9,6 +9,7 @@ mod begun;
 mod characters;
 mod judge;
 pub mod kind;
+pub mod laws;
 mod real;
 #[cfg(test)]
 mod rows;
