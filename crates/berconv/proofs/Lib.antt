@@ -1,2 +1,3 @@
 pub mod Blocks
 pub mod Sorted
+pub mod Asking

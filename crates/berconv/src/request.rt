@@ -1,8 +1,8 @@
 //! Reads the arguments.
-ghost use Rattle.std.specs.Prelude.{◌≡◌, IfOk, OnOk, true};
-ghost use Rattle.bcder.specs.declared.mode.Mode.{Mode as TheMode};
-ghost use Rattle.cli.specs.Armor.{is_label};
-ghost use Rattle.berconv.specs.Words.{IsRules, IsTaken};
+ghost use Rattle.std.specs.Prelude.{◌≡◌, ◌≤◌, IfOk, OnOk, IfSome, IfNone};
+ghost use Rattle.std.specs.Prelude.{length, map, string_bytes};
+ghost use Rattle.berconv.specs.Words.{Does, IsAsked, IsLabel, IsOther, IsRules, name_of};
+ghost use Rattle.berconv.specs.Words.{read_of};
 
 use bcder::Mode;
 use cli::arguments::{Argument, Arguments, Misuse};
@@ -44,8 +44,9 @@ pub(crate) enum Asked<'a> {
 
 /// Returns the rules that follow an option.
 fn rules<'a>(option: &'a str, args: &mut Arguments<'a>) -> Result<Mode, Misuse<'a>>
-    ensures rules { IfOk result (IsRules args.old args.new) }
-    ensures taken { OnOk result (IsTaken args.old args.new) }
+    ensures rules { IfOk result (IsRules
+        (map string_bytes args.old.words.now) (map string_bytes args.new.words.now)) }
+    ensures same { args.new.only_files ≡ args.old.only_files }
 {
     match args.value() {
         Some("ber") => Ok(Mode::Ber),
@@ -57,8 +58,9 @@ fn rules<'a>(option: &'a str, args: &mut Arguments<'a>) -> Result<Mode, Misuse<'
 
 /// Returns the label that follows an option.
 fn label<'a>(option: &'a str, args: &mut Arguments<'a>) -> Result<&'a str, Misuse<'a>>
-    ensures label { IfOk result (λ label. is_label label.now ≡ true) }
-    ensures taken { OnOk result (IsTaken args.old args.new) }
+    ensures label { IfOk result (IsLabel
+        (map string_bytes args.old.words.now) (map string_bytes args.new.words.now)) }
+    ensures same { args.new.only_files ≡ args.old.only_files }
 {
     if let Some(word) = args.value() {
         if is_label(word) {
@@ -68,9 +70,58 @@ fn label<'a>(option: &'a str, args: &mut Arguments<'a>) -> Result<&'a str, Misus
     Err(Misuse::Word(option, "a label has to follow"))
 }
 
+/// Returns the name of the file, or that of standard input if none is named.
+fn or_stdin(file: Option<&str>) -> &str
+    ensures { result.now ≡ name_of file.entry }
+{
+    match file {
+        Some(name) => name,
+        None => STDIN,
+    }
+}
+
+/// Goes over an argument, and returns what is asked for if no conversion is.
+fn take<'a>(
+    request: &mut Request<'a>,
+    file: &mut Option<&'a str>,
+    argument: Argument<'a>,
+    args: &mut Arguments<'a>,
+) -> Result<Option<Asked<'a>>, Misuse<'a>>
+    ensures does { IfOk result (λ asked. IfNone asked (Does argument.entry
+        (read_of request.old file.old) (map string_bytes args.old.words.now)
+        (read_of request.new file.new) (map string_bytes args.new.words.now))) }
+    ensures same { args.new.only_files ≡ args.old.only_files }
+    ensures other { IfOk result (λ asked. IfSome asked (IsOther argument.entry)) }
+    ensures less { OnOk result (length args.new.words.now ≤ length args.old.words.now) }
+{
+    let option = match argument {
+        Argument::File(name) => {
+            if file.is_some() {
+                return Err(Misuse::Word(name, "a second file"));
+            }
+            *file = Some(name);
+            return Ok(None);
+        }
+        Argument::Option(option) => option,
+    };
+    match option {
+        "--from" => request.from = rules(option, args)?,
+        "--to" => request.to = rules(option, args)?,
+        "--sort-sets" => request.sorts = true,
+        "--input" => request.form = Some(args.form(option)?),
+        "--pem" => request.pem = Some(label(option, args)?),
+        "-h" | "--help" => return Ok(Some(Asked::Help)),
+        "--version" => return Ok(Some(Asked::Version)),
+        _ => return Err(Misuse::Word(option, "no such option")),
+    }
+    Ok(None)
+}
+
 /// Returns what the arguments ask for, or why they ask for nothing. Of an option that stands there
 /// twice the last counts.
-pub(crate) fn read(words: &[String]) -> Result<Asked<'_>, Misuse<'_>> {
+pub(crate) fn read(words: &[String]) -> Result<Asked<'_>, Misuse<'_>>
+    ensures { IfOk result (IsAsked (map string_bytes words.now)) }
+{
     let mut args = Arguments::new(words);
     let mut file = None;
     let mut request = Request {
@@ -81,29 +132,14 @@ pub(crate) fn read(words: &[String]) -> Result<Asked<'_>, Misuse<'_>> {
         pem: None,
     };
     while let Some(argument) = args.next() {
-        let option = match argument {
-            Argument::File(name) => {
-                if file.is_some() {
-                    return Err(Misuse::Word(name, "a second file"));
-                }
-                file = Some(name);
-                continue;
-            }
-            Argument::Option(option) => option,
-        };
-        match option {
-            "--from" => request.from = rules(option, &mut args)?,
-            "--to" => request.to = rules(option, &mut args)?,
-            "--sort-sets" => request.sorts = true,
-            "--input" => request.form = Some(args.form(option)?),
-            "--pem" => request.pem = Some(label(option, &mut args)?),
-            "-h" | "--help" => return Ok(Asked::Help),
-            "--version" => return Ok(Asked::Version),
-            _ => return Err(Misuse::Word(option, "no such option")),
+        match take(&mut request, &mut file, argument, &mut args) {
+            Ok(None) => {}
+            Ok(Some(asked)) => return Ok(asked),
+            Err(misuse) => return Err(misuse),
         }
     }
     if request.sorts && request.to == Mode::Ber {
         return Err(Misuse::Word("--sort-sets", "in BER a SET has no order"));
     }
-    Ok(Asked::Conversion(request, file.unwrap_or(STDIN)))
+    Ok(Asked::Conversion(request, or_stdin(file)))
 }

@@ -5,3 +5,4 @@ mod Steps
 mod Holding
 mod Finding
 mod Running
+mod Asking

@@ -6,3 +6,4 @@ pub mod Answers
 pub mod Opened
 pub mod Walk
 pub mod Runs
+pub mod Asked

@@ -2,10 +2,12 @@
 ghost use Rattle.std.specs.Prelude.{◌≡◌, ◌∷◌, [], map, string_bytes, false};
 ghost use Rattle.std.specs.Prelude.{IfSome, IfNone, IfOk, OnErr};
 ghost use Rattle.cli.specs.Arguments.{is_option, Comes, IsEnd, IsForm, IsNoForm};
-ghost use Rattle.cli.specs.Arguments.{IsNumber, IsNoNumber};
+ghost use Rattle.cli.specs.Arguments.{IsNumber, IsNoNumber, rules_option};
+ghost use Rattle.bcder.specs.declared.mode.Mode.{Mode as TheMode};
 
 use crate::form::Form;
 use crate::shown::Shown;
+use bcder::Mode;
 use std::fmt;
 
 /// An argument of a program.
@@ -133,6 +135,19 @@ impl<'a> Arguments<'a> {
             }
         }
         Err(Misuse::Word(option, "a number has to follow"))
+    }
+}
+
+/// Returns the encoding rules that an option names.
+pub fn rules_of(option: &str) -> Option<Mode>
+    ensures some { IfSome result (λ mode. option.now ≡ rules_option mode) }
+    ensures none { IfNone result ((mode : TheMode) → option.now ≡ rules_option mode → ⊥) }
+{
+    match option {
+        "--ber" => Some(Mode::Ber),
+        "--cer" => Some(Mode::Cer),
+        "--der" => Some(Mode::Der),
+        _ => None,
     }
 }
 

@@ -1,6 +1,8 @@
 //! Reads the files that are named on a command line.
-ghost use Rattle.std.specs.Prelude.{◌≡◌};
+ghost use Rattle.std.specs.Prelude.{◌≡◌, IfOk, map};
+ghost use Rattle.cli.specs.Arguments.{names_of};
 
+use crate::arguments::Misuse;
 use std::io::Read;
 use std::{fs, io};
 
@@ -46,5 +48,19 @@ pub fn read<'a>(rt: &HostRuntime, name: &'a str) -> Input<'a>
             Ok(_) => Ok(octets),
             Err(error) => Err(error),
         },
+    }
+}
+
+/// Returns the names of files, or that of standard input if there is none.
+pub fn or_stdin<'a>(mut names: Vec<&'a str>) -> Result<Vec<&'a str>, Misuse<'a>>
+    ensures { IfOk result (λ v. map (λ f. f.now) v.items
+        ≡ names_of (map (λ f. f.now) names.entry.items)) }
+{
+    if !names.is_empty() {
+        return Ok(names);
+    }
+    match names.push(STDIN) {
+        Ok(()) => Ok(names),
+        Err(_) => Err(Misuse::NoMemory),
     }
 }
