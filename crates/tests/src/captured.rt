@@ -1,11 +1,12 @@
 //! Tests of captured values: how they are written, in which modes they are refused, and how they
 //! are built.
-#![tactic(auto, using(bcder::specs::laws::Moved::untouched_is_moved))]
+#![tactic(auto, using(bcder::specs::laws::Moved::steps))]
 
 ghost use Rattle.bcder.specs.calls.Views.{Moved};
 
 use crate::asserts::{Case, holds};
 use crate::encodes::{refuses, writes};
+use crate::reading::{All, InSequence, Reader, read};
 use bcder::captured::CapturedBuilder;
 use bcder::decode::{Constructed as Content, DecodeError, IntoSource, SliceSource, Source};
 use bcder::encode::{Constructed, EncodeError, Nothing, PrimitiveContent, Values, sequence};
@@ -13,31 +14,24 @@ use bcder::{Captured, Mode, NoMemory, Tag};
 use std::alloc::Global;
 use std::process::Abort;
 
-/// Captures all values.
-#[tactic(auto, using(bcder::specs::laws::Moved::steps))]
-fn all<S: Source>(
-    cons: &mut Content<'_, S>,
-    alloc: Global,
-) -> Result<Captured, DecodeError<S::Error>>
-    ensures { Moved S.stream cons }
-{
-    cons.capture_all(alloc)
-}
-
 /// Skips a value, and captures the next.
-#[tactic(auto, using(bcder::specs::laws::Moved::steps))]
-fn second<S: Source>(
-    cons: &mut Content<'_, S>,
-    alloc: Global,
-) -> Result<Captured, DecodeError<S::Error>>
-    ensures { Moved S.stream cons }
-{
-    cons.skip_one(alloc)?;
-    cons.capture_one(alloc)
+#[derive(Clone, Copy)]
+struct Second;
+
+impl Reader for Second {
+    type Value = Captured;
+
+    fn read<S: Source>(
+        &mut self,
+        alloc: Global,
+        cons: &mut Content<'_, S>,
+    ) -> Result<Captured, DecodeError<S::Error>> {
+        cons.skip_one(alloc)?;
+        cons.capture_one(alloc)
+    }
 }
 
 /// Skips a value in BER.
-#[tactic(auto, using(bcder::specs::laws::Moved::steps))]
 fn pass_in_ber<S: Source>(
     cons: &mut Content<'_, S>,
     alloc: Global,
@@ -50,14 +44,19 @@ fn pass_in_ber<S: Source>(
 }
 
 /// Captures what is skipped in BER.
-#[tactic(auto, using(bcder::specs::laws::Moved::steps))]
-fn passed_in_ber<S: Source>(
-    cons: &mut Content<'_, S>,
-    alloc: Global,
-) -> Result<Captured, DecodeError<S::Error>>
-    ensures { Moved S.stream cons }
-{
-    cons.capture(alloc, |inner| pass_in_ber(inner, alloc))
+#[derive(Clone, Copy)]
+struct InBer;
+
+impl Reader for InBer {
+    type Value = Captured;
+
+    fn read<S: Source>(
+        &mut self,
+        alloc: Global,
+        cons: &mut Content<'_, S>,
+    ) -> Result<Captured, DecodeError<S::Error>> {
+        cons.capture(alloc, |inner| pass_in_ber(inner, alloc))
+    }
 }
 
 /// How captured values are made.
@@ -166,54 +165,34 @@ const LINES: [Line; 20] = [
     (Made::Kept, &[0x02, 0x01, 0x01], DER, "0"),
 ];
 
-/// Captures what is inside a SEQUENCE.
-#[tactic(auto, using(bcder::specs::laws::Moved::steps))]
-fn inside<S: Source>(
-    cons: &mut Content<'_, S>,
-    alloc: Global,
-) -> Result<Captured, DecodeError<S::Error>>
-    ensures { Moved S.stream cons }
-{
-    cons.take_sequence(|inner| inner.capture_all(alloc))
-}
-
-/// Captures values of content.
-fn take<S: Source>(
-    cons: &mut Content<'_, S>,
-    alloc: Global,
-    made: Made,
-) -> Result<Captured, DecodeError<S::Error>>
-    ensures { Moved S.stream cons }
-{
-    match made {
-        Made::Inside => inside(cons, alloc),
-        Made::InBer => passed_in_ber(cons, alloc),
-        Made::Second => second(cons, alloc),
-        _ => all(cons, alloc),
-    }
-}
-
-/// Captures values of octets in a mode.
-fn captured_of(case: &Case<'_, impl Abort>, octets: &[u8], mode: Mode, made: Made) -> Captured {
-    let alloc = case.alloc;
-    case.done(mode.decode(SliceSource::new(octets), |cons| take(cons, alloc, made)))
-}
-
 /// Captures all values of the octets in a mode.
 fn capture(case: &Case<'_, impl Abort>, octets: &[u8], mode: Mode) -> Captured {
-    captured_of(case, octets, mode, Made::All(mode))
+    case.done(read(case.alloc, mode, &mut SliceSource::new(octets), &mut All))
 }
 
+/// A SEQUENCE of an INTEGER; an empty OCTET STRING and an INTEGER; and an empty SEQUENCE.
+const HELD: &[u8] = &[0x30, 0x80, 0x02, 0x01, 0x05, 0x00, 0x00];
+
+const BEHIND: &[u8] = &[0x04, 0x00, 0x02, 0x01, 0x05];
+
+const OPEN: &[u8] = &[0x30, 0x80, 0x00, 0x00];
+
 /// Captures values of octets that hold more.
-fn read(case: &Case<'_, impl Abort>, made: Made) -> Captured {
-    let held = [0x30, 0x80, 0x02, 0x01, 0x05, 0x00, 0x00];
-    let behind = [0x04, 0x00, 0x02, 0x01, 0x05];
-    let open = [0x30, 0x80, 0x00, 0x00];
-    match made {
-        Made::Inside => captured_of(case, &held, Mode::Ber, made),
-        Made::InBer => captured_of(case, &open, Mode::Der, made),
-        _ => captured_of(case, &behind, Mode::Der, Made::Second),
-    }
+fn capture_part(case: &Case<'_, impl Abort>, made: Made) -> Captured {
+    let alloc = case.alloc;
+    let found = match made {
+        Made::Inside => {
+            read(
+                alloc,
+                Mode::Ber,
+                &mut SliceSource::new(HELD),
+                &mut InSequence(All),
+            )
+        }
+        Made::InBer => read(alloc, Mode::Der, &mut SliceSource::new(OPEN), &mut InBer),
+        _ => read(alloc, Mode::Der, &mut SliceSource::new(BEHIND), &mut Second),
+    };
+    case.done(found)
 }
 
 /// Builds on captured values.
@@ -286,10 +265,10 @@ fn make(case: &Case<'_, impl Abort>, made: Made, octets: &[u8]) -> Captured {
     match made {
         Made::All(mode) => capture(case, octets, mode),
         Made::Empty => Captured::empty(case.alloc, Mode::Der),
-        Made::Inside | Made::InBer | Made::Second => read(case, made),
-        Made::Copy => case.done(read(case, made).clone()),
-        Made::More => build_on(case, read(case, made), true),
-        Made::Again => build_on(case, read(case, made), false),
+        Made::Inside | Made::InBer | Made::Second => capture_part(case, made),
+        Made::Copy => case.done(capture_part(case, made).clone()),
+        Made::More => build_on(case, capture_part(case, made), true),
+        Made::Again => build_on(case, capture_part(case, made), false),
         Made::Listed | Made::Several => gather(case, made),
         Made::Built => build(case),
         Made::OfNone => case.done(CapturedBuilder::new(case.alloc, Mode::Cer).freeze()),

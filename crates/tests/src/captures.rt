@@ -1,29 +1,20 @@
 //! Tests of captures, and of captured values, beside the typed readers.
 #![tactic(auto, using(bcder::specs::laws::Moved::steps))]
 
-ghost use Rattle.bcder.specs.calls.Views.{Moved};
-
-use crate::asserts::{Case, done, holds, is_refused, same};
+use crate::asserts::{Case, done, holds, same};
 use crate::over::{Row, check_all};
+use crate::reading::{All, InSequence, Reader, Refusal, read};
 use bcder::decode::{Constructed, DecodeError, SliceSource, Source};
 use bcder::{Captured, Mode};
 use std::alloc::Global;
 use std::process::Abort;
 
-/// Captures all values.
-fn capture_values(rt: &impl Abort, alloc: Global, octets: &[u8], mode: Mode) -> Captured {
-    let mut source = SliceSource::new(octets);
-    done(
-        rt,
-        mode.decode_lent(&mut source, |cons| cons.capture_all(alloc)),
-    )
-}
-
 /// Checks that what is decoded in part is gone, and that a refusal leaves what is there.
 #[test]
 fn captured_values_are_decoded_in_part(rt: HostRuntime) {
     let octets = &[0x02, 0x01, 0x01, 0x02, 0x01, 0x02];
-    let mut values = capture_values(&rt, rt.alloc(), octets, Mode::Der);
+    let mut source = SliceSource::new(octets);
+    let mut values = done(&rt, read(rt.alloc(), Mode::Der, &mut source, &mut All));
     let taken = values.decode_partial(|cons| cons.take_u8());
     same(&rt, done(&rt, taken), 1);
     same(&rt, values.as_slice(), &octets[3..]);
@@ -35,23 +26,19 @@ fn captured_values_are_decoded_in_part(rt: HostRuntime) {
 }
 
 /// Captures each value up to the end of the content on its own.
-fn capture_each<S: Source>(
-    alloc: Global,
-    cons: &mut Constructed<'_, S>,
-) -> Result<Vec<Captured>, DecodeError<S::Error>>
-    ensures { Moved S.stream cons }
-{
-    cons.collect_some(alloc, |cons| cons.capture_opt_one(alloc))
-}
+#[derive(Clone, Copy)]
+struct Each;
 
-/// Captures each value of a SEQUENCE on its own.
-fn capture_each_inside<S: Source>(
-    alloc: Global,
-    cons: &mut Constructed<'_, S>,
-) -> Result<Vec<Captured>, DecodeError<S::Error>>
-    ensures { Moved S.stream cons }
-{
-    cons.take_sequence(|cons| capture_each(alloc, cons))
+impl Reader for Each {
+    type Value = Vec<Captured>;
+
+    fn read<S: Source>(
+        &mut self,
+        alloc: Global,
+        cons: &mut Constructed<'_, S>,
+    ) -> Result<Vec<Captured>, DecodeError<S::Error>> {
+        cons.collect_some(alloc, |cons| cons.capture_opt_one(alloc))
+    }
 }
 
 /// A mode, octets, whether they are a SEQUENCE or its content, and the values in order, or `None` if
@@ -103,21 +90,6 @@ fn are_captured(case: &Case<'_, impl Abort>, found: &[Captured], wanted: &[&[u8]
     }
 }
 
-/// Captures each value, inside a SEQUENCE or not.
-fn capture_some<S: Source>(
-    alloc: Global,
-    cons: &mut Constructed<'_, S>,
-    inside: bool,
-) -> Result<Vec<Captured>, DecodeError<S::Error>>
-    ensures { Moved S.stream cons }
-{
-    if inside {
-        capture_each_inside(alloc, cons)
-    } else {
-        capture_each(alloc, cons)
-    }
-}
-
 impl Row for Line {
     fn octets(&self) -> &[u8] {
         self.1
@@ -125,13 +97,14 @@ impl Row for Line {
 
     fn check<S: Source + Drop, R: Abort>(&self, case: &Case<'_, R>, source: S) {
         let mut source = source;
-        let (alloc, inside) = (case.alloc, self.2);
-        let found = self
-            .0
-            .decode_lent(&mut source, |cons| capture_some(alloc, cons, inside));
+        let found = if self.2 {
+            read(case.alloc, self.0, &mut source, &mut InSequence(Each))
+        } else {
+            read(case.alloc, self.0, &mut source, &mut Each)
+        };
         match (found, self.3) {
             (Ok(found), Some(wanted)) => are_captured(case, found.as_slice(), wanted),
-            (Err(error), None) => case.holds(error.content_error().is_some()),
+            (Err(refusal), None) => case.same(refusal, Refusal::Content),
             _ => case.holds(false),
         }
     }
@@ -142,22 +115,30 @@ fn each_value_is_captured(rt: HostRuntime) {
     check_all(&rt, rt.alloc(), &LINES);
 }
 
-/// Drops the refusal of a capture, and then takes a number.
-fn take_after_refusal<S: Source>(
-    rt: &impl Abort,
-    alloc: Global,
-    cons: &mut Constructed<'_, S>,
-) -> Result<u8, DecodeError<S::Error>>
-    ensures { Moved S.stream cons }
-{
-    holds(rt, cons.capture_opt_one(alloc).is_err());
-    cons.take_u8()
+/// Drops the refusal of a capture, and then takes a number. Notes whether the capture was refused.
+#[derive(Clone, Copy)]
+struct AfterRefusal {
+    refused: bool,
+}
+
+impl Reader for AfterRefusal {
+    type Value = u8;
+
+    fn read<S: Source>(
+        &mut self,
+        alloc: Global,
+        cons: &mut Constructed<'_, S>,
+    ) -> Result<u8, DecodeError<S::Error>> {
+        self.refused = cons.capture_opt_one(alloc).is_err();
+        cons.take_u8()
+    }
 }
 
 #[test]
 fn nothing_is_taken_after_a_refused_capture(rt: HostRuntime) {
-    let alloc = rt.alloc();
     let mut source = SliceSource::new(&[0x30, 0x03, 0x02, 0x05, 0x01]);
-    let refused = Mode::Der.decode_lent(&mut source, |cons| take_after_refusal(&rt, alloc, cons));
-    holds(&rt, is_refused(refused));
+    let mut after = AfterRefusal { refused: false };
+    let found = read(rt.alloc(), Mode::Der, &mut source, &mut after);
+    holds(&rt, after.refused);
+    same(&rt, found, Err(Refusal::Content));
 }

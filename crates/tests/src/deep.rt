@@ -6,6 +6,7 @@ ghost use Rattle.bcder.specs.calls.Views.{Moved};
 
 use crate::asserts::{Case, done};
 use crate::over::{Row, check_over};
+use crate::reading::{Reader, Refusal, read, why};
 use bcder::decode::{Constructed, ContentError, DecodeError, Source};
 use bcder::{Mode, Tag};
 use std::alloc::Global;
@@ -48,23 +49,33 @@ fn skip_told<S: Source>(
     cons.skip(alloc, &mut op)
 }
 
-/// Captures the next value, and returns how many octets it has, or `None` if it is refused for its
-/// octets.
-fn capture_len<S: Source>(
-    case: &Case<'_, impl Abort>,
-    cons: &mut Constructed<'_, S>,
-    octets: &[u8],
-) -> Option<usize>
-    ensures { Moved S.stream cons }
-{
-    match cons.capture_one(case.alloc) {
-        Ok(values) => {
-            case.holds(values.as_slice() == octets);
-            Some(values.len())
-        }
-        Err(error) => {
-            case.holds(error.content_error().is_some());
-            None
+impl Reader for Told {
+    type Value = ();
+
+    fn read<S: Source>(
+        &mut self,
+        alloc: Global,
+        cons: &mut Constructed<'_, S>,
+    ) -> Result<(), DecodeError<S::Error>> {
+        skip_told(cons, alloc, self)
+    }
+}
+
+/// Captures the next value, and says whether it is these octets, or why it was refused.
+#[derive(Clone, Copy)]
+struct Capture<'a>(&'a [u8]);
+
+impl Reader for Capture<'_> {
+    type Value = Result<bool, Refusal>;
+
+    fn read<S: Source>(
+        &mut self,
+        alloc: Global,
+        cons: &mut Constructed<'_, S>,
+    ) -> Result<Result<bool, Refusal>, DecodeError<S::Error>> {
+        match cons.capture_one(alloc) {
+            Ok(values) => Ok(Ok(values.as_slice() == self.0)),
+            Err(error) => Ok(Err(why(error))),
         }
     }
 }
@@ -112,12 +123,12 @@ impl Row for Skipped<'_> {
             calls: 0,
             nested: true,
         };
-        match mode.decode_lent(&mut source, |cons| skip_told(cons, case.alloc, &mut told)) {
+        match read(case.alloc, mode, &mut source, &mut told) {
             Ok(()) => {
                 case.holds(skipped);
                 case.same(case.done(source.take_opt_u8()), None);
             }
-            Err(error) => case.holds(!skipped && error.content_error().is_some()),
+            Err(refusal) => case.holds(!skipped && refusal == Refusal::Content),
         }
         case.same(told.calls, calls);
         case.holds(told.nested);
@@ -133,9 +144,13 @@ impl Row for Captured<'_> {
         let mut source = source;
         let (_, mode, captured, _) = self.1;
         let all = self.0.len();
-        let found = mode.decode_lent(&mut source, |cons| Ok(capture_len(case, cons, self.0)));
-        let wanted = if captured { Some(all) } else { None };
-        case.same(case.done(found), wanted);
+        let found = read(case.alloc, mode, &mut source, &mut Capture(self.0));
+        let wanted = if captured {
+            Ok(true)
+        } else {
+            Err(Refusal::Content)
+        };
+        case.same(found, Ok(wanted));
         let left = if captured { 0 } else { all };
         case.same(case.done(source.skip(all)), left);
     }

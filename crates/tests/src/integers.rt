@@ -2,14 +2,14 @@
 //! compared in `values`.
 #![tactic(auto, using(bcder::specs::laws::Moved::steps))]
 
-ghost use Rattle.bcder.specs.calls.Views.{Moved, MovedOctets};
+ghost use Rattle.bcder.specs.calls.Views.{MovedOctets};
 
 use crate::asserts::{Case, done, holds, same, shows};
 use crate::over::sip;
-use bcder::decode::{Constructed, ContentError, DecodeError, Primitive, SliceSource, Source};
+use crate::reading::{Reader, read};
+use bcder::decode::{Constructed, ContentError, DecodeError, Primitive, Source};
 use bcder::int::{IntegerError, InvalidInteger, OverflowError};
 use bcder::{Integer, Mode, Tag, Unsigned};
-use bytes::Bytes;
 use std::alloc::Global;
 use std::convert::TryFrom;
 use std::hash::{DefaultHasher, Hash, Hasher};
@@ -17,81 +17,113 @@ use std::process::Abort;
 
 // ---- reading octets
 
-/// Checks that a reader that refuses leaves the octets to the next one.
-fn read_twice<S: Source>(
-    rt: &impl Abort,
-    octets: &mut Primitive<'_, S>,
-) -> Result<u16, DecodeError<S::Error>>
+/// How the contents octets of an INTEGER are read.
+#[derive(Clone, Copy)]
+enum Way {
+    /// A reader refuses them, and the next one reads 256.
+    Twice,
+
+    /// They are left, which is refused with a fixed text.
+    Left,
+
+    /// All of them are taken, or borrowed.
+    All,
+    Borrowed,
+
+    /// A reader refuses them, they are looked at, and then taken.
+    Looked,
+}
+
+/// Octets that are read.
+const SHORT: &[u8] = &[0x01, 0x00];
+
+const LONG: &[u8] = &[0x01, 0x02, 0x03];
+
+const READ: [(&[u8], Way); 5] = [
+    (SHORT, Way::Twice),
+    (SHORT, Way::Left),
+    (LONG, Way::All),
+    (LONG, Way::Borrowed),
+    (LONG, Way::Looked),
+];
+
+/// Returns whether a reader that refuses leaves the octets to the next one.
+fn read_twice<S: Source>(octets: &mut Primitive<'_, S>) -> Result<bool, DecodeError<S::Error>>
     ensures { MovedOctets S.stream octets }
 {
-    holds(rt, octets.to_u8().is_err());
-    same(rt, octets.remaining(), 2);
-    octets.to_u16()
+    let refused = octets.to_u8().is_err();
+    let left = octets.remaining() == 2;
+    Ok(refused & left & (octets.to_u16()? == 256))
 }
 
-#[test]
-fn a_refused_reader_takes_nothing(rt: HostRuntime) {
-    let read = Primitive::decode_slice(&[0x01, 0x00], Mode::Der, |p| read_twice(&rt, p));
-    same(&rt, done(&rt, read), 256);
-    let left = Primitive::decode_slice(&[0x01, 0x00], Mode::Der, |p| Ok(p.remaining()));
-    let refused = left.err().expect(&rt, "octets that are left");
-    holds(
-        &rt,
-        matches!(refused.content_error(), Some(ContentError::Static(_))),
-    );
+/// Looks at octets that a reader refused. Returns whether they stay until they are taken.
+fn look_and_take<S: Source>(
+    alloc: Global,
+    octets: &mut Primitive<'_, S>,
+) -> Result<bool, DecodeError<S::Error>>
+    ensures { MovedOctets S.stream octets }
+{
+    let refused = octets.to_u16().is_err();
+    let before = octets.remaining() == 3;
+    let looked = octets.slice_all(|octets| octets == LONG)?;
+    let left = octets.remaining() == 3;
+    Ok(refused & before & looked & left & (octets.take_all(alloc)?.as_slice() == LONG))
 }
 
-/// Checks all octets, taken and borrowed.
+impl Way {
+    /// Reads octets, and returns whether they are as they should be.
+    fn look<S: Source>(
+        self,
+        alloc: Global,
+        octets: &mut Primitive<'_, S>,
+    ) -> Result<bool, DecodeError<S::Error>>
+        ensures { MovedOctets S.stream octets }
+    {
+        match self {
+            Way::Twice => read_twice(octets),
+            Way::Left => Ok(octets.remaining() == 2),
+            Way::All => Ok(octets.take_all(alloc)?.as_slice() == LONG),
+            Way::Borrowed => octets.with_slice_all(|octets| Ok(octets == LONG)),
+            Way::Looked => look_and_take(alloc, octets),
+        }
+    }
+}
+
+/// Reads octets alone.
 #[test]
 fn octets_as_they_are(rt: HostRuntime) {
     let alloc = rt.alloc();
-    let octets = [0x01, 0x02, 0x03];
-    let all = Primitive::decode_slice(&octets, Mode::Der, |p| p.take_all(alloc));
-    same(&rt, done(&rt, all).as_slice(), &octets);
-    let count = Primitive::decode_slice(&octets, Mode::Der, |p| {
-        p.with_slice_all(|octets| Ok(octets.len()))
-    });
-    same(&rt, done(&rt, count), 3);
+    for (row, (octets, way)) in READ.iter().enumerate() {
+        let case = Case::new(&rt, alloc, row);
+        let is_left = matches!(way, Way::Left);
+        match Primitive::decode_slice(*octets, Mode::Der, |p| way.look(alloc, p)) {
+            Ok(right) => case.holds(right && !is_left),
+            Err(error) => {
+                case.holds(is_left);
+                case.holds(matches!(error.content_error(), Some(ContentError::Static(_))));
+            }
+        }
+    }
 }
 
-/// Looks at octets that a reader refused. They stay until they are taken.
-fn look_and_take<S: Source>(
-    rt: &impl Abort,
-    alloc: Global,
-    octets: &mut Primitive<'_, S>,
-) -> Result<Bytes, DecodeError<S::Error>>
-    ensures { MovedOctets S.stream octets }
-{
-    holds(rt, octets.to_u16().is_err());
-    same(rt, octets.remaining(), 3);
-    holds(
-        rt,
-        octets.slice_all(|octets| octets == [0x01, 0x02, 0x03].as_slice())?,
-    );
-    same(rt, octets.remaining(), 3);
-    octets.take_all(alloc)
-}
+/// Reads an INTEGER.
+impl Reader for Way {
+    type Value = bool;
 
-/// Looks at the octets of an INTEGER that a reader refused. They stay until they are taken.
-fn look_and_take_value<S: Source>(
-    rt: &impl Abort,
-    alloc: Global,
-    cons: &mut Constructed<'_, S>,
-) -> Result<Bytes, DecodeError<S::Error>>
-    ensures { Moved S.stream cons }
-{
-    cons.take_primitive_if(Tag::INTEGER, |p| look_and_take(rt, alloc, p))
+    fn read<S: Source>(
+        &mut self,
+        alloc: Global,
+        cons: &mut Constructed<'_, S>,
+    ) -> Result<bool, DecodeError<S::Error>> {
+        cons.take_primitive_if(Tag::INTEGER, |octets| self.look(alloc, octets))
+    }
 }
 
 #[test]
 fn octets_that_are_looked_at(rt: HostRuntime) {
-    let alloc = rt.alloc();
-    let octets = [0x01, 0x02, 0x03];
-    let all = Primitive::decode_slice(&octets, Mode::Der, |p| look_and_take(&rt, alloc, p));
-    same(&rt, done(&rt, all).as_slice(), &octets);
-    let mut sip = sip(&rt, alloc, &[0x02, 0x03, 0x01, 0x02, 0x03]);
-    let taken = Mode::Der.decode_lent(&mut sip, |cons| look_and_take_value(&rt, alloc, cons));
-    same(&rt, done(&rt, taken).as_slice(), &octets);
+    let mut source = sip(&rt, rt.alloc(), &[0x02, 0x03, 0x01, 0x02, 0x03]);
+    let looked = read(rt.alloc(), Mode::Der, &mut source, &mut Way::Looked);
+    same(&rt, looked, Ok(true));
 }
 
 // ---- integers

@@ -30,6 +30,8 @@ mod octets;
 #[cfg(test)]
 mod over;
 #[cfg(test)]
+mod reading;
+#[cfg(test)]
 mod refusals;
 #[cfg(test)]
 mod sources;

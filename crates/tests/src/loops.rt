@@ -3,10 +3,11 @@
 
 ghost use Rattle.bcder.specs.calls.Views.{Moved};
 
-use crate::asserts::{Case, holds, is_refused, same, shows};
+use crate::asserts::{Case, holds, same};
 use crate::over::{Row, check_all, failing_sip};
+use crate::reading::{InSequence, Reader, Refusal, read, read_or_text};
 use bcder::Mode;
-use bcder::decode::{Constructed, ContentError, DecodeError, Source};
+use bcder::decode::{Constructed, ContentError, DecodeError, SliceSource, Source};
 use std::alloc::Global;
 use std::process::Abort;
 
@@ -89,81 +90,72 @@ fn take_but_nine<S: Source>(
 }
 
 /// Collects numbers, of which none may be nine.
-fn collect<S: Source>(
-    alloc: Global,
-    cons: &mut Constructed<'_, S>,
-) -> Result<Vec<u8>, DecodeError<S::Error>>
-    ensures { Moved S.stream cons }
-{
-    cons.collect_some(alloc, |cons| take_but_nine(cons))
+#[derive(Clone, Copy)]
+struct Numbers;
+
+impl Reader for Numbers {
+    type Value = Vec<u8>;
+
+    fn read<S: Source>(
+        &mut self,
+        alloc: Global,
+        cons: &mut Constructed<'_, S>,
+    ) -> Result<Vec<u8>, DecodeError<S::Error>> {
+        cons.collect_some(alloc, |cons| take_but_nine(cons))
+    }
 }
 
-/// Takes the numbers of a SEQUENCE OF INTEGER.
-fn take_numbers<S: Source>(
-    alloc: Global,
-    cons: &mut Constructed<'_, S>,
-) -> Result<Vec<u8>, DecodeError<S::Error>>
-    ensures { Moved S.stream cons }
-{
-    cons.take_sequence(|cons| collect(alloc, cons))
+/// Collects numbers, and takes the NULL after them.
+#[derive(Clone, Copy)]
+struct UpToNull;
+
+impl Reader for UpToNull {
+    type Value = Vec<u8>;
+
+    fn read<S: Source>(
+        &mut self,
+        alloc: Global,
+        cons: &mut Constructed<'_, S>,
+    ) -> Result<Vec<u8>, DecodeError<S::Error>> {
+        let numbers = Numbers.read(alloc, cons)?;
+        cons.take_null()?;
+        Ok(numbers)
+    }
 }
 
-/// Takes numbers, and the NULL after them.
-fn take_up_to_null<S: Source>(
-    alloc: Global,
-    cons: &mut Constructed<'_, S>,
-) -> Result<Vec<u8>, DecodeError<S::Error>>
-    ensures { Moved S.stream cons }
-{
-    let numbers = collect(alloc, cons)?;
-    cons.take_null()?;
-    Ok(numbers)
+/// Collects numbers up to the end of the content and beyond it, where a call takes nothing, and
+/// counts the calls.
+#[derive(Clone, Copy)]
+struct Beyond {
+    calls: u64,
 }
 
-/// Collects numbers up to the end of the content and beyond it, where a call takes nothing.
-fn collect_inside<S: Source>(
-    alloc: Global,
-    cons: &mut Constructed<'_, S>,
-    calls: &mut u64,
-) -> Result<Vec<Option<u8>>, DecodeError<S::Error>>
-    ensures { Moved S.stream cons }
-{
-    cons.collect_some(alloc, |cons| {
-        *calls = calls.saturating_add(1);
-        Ok(Some(cons.take_opt_u8()?))
-    })
-}
+impl Reader for Beyond {
+    type Value = Vec<Option<u8>>;
 
-/// Collects numbers inside a SEQUENCE, up to its end and beyond it.
-fn collect_on<S: Source>(
-    alloc: Global,
-    cons: &mut Constructed<'_, S>,
-    calls: &mut u64,
-) -> Result<Vec<Option<u8>>, DecodeError<S::Error>>
-    ensures { Moved S.stream cons }
-{
-    cons.take_sequence(|cons| collect_inside(alloc, cons, calls))
+    fn read<S: Source>(
+        &mut self,
+        alloc: Global,
+        cons: &mut Constructed<'_, S>,
+    ) -> Result<Vec<Option<u8>>, DecodeError<S::Error>> {
+        cons.collect_some(alloc, |cons| {
+            self.calls = self.calls.saturating_add(1);
+            Ok(Some(cons.take_opt_u8()?))
+        })
+    }
 }
 
 /// Checks that these are the numbers, or that content is refused.
-fn check_numbers<E: Drop>(
+fn check_numbers(
     case: &Case<'_, impl Abort>,
-    found: Result<Vec<u8>, DecodeError<E>>,
+    found: Result<Vec<u8>, Refusal>,
     wanted: Option<&[u8]>,
 ) {
     match (found, wanted) {
         (Ok(found), Some(wanted)) => case.same(found.as_slice(), wanted),
-        (Err(error), None) => case.holds(error.content_error().is_some()),
+        (Err(refusal), None) => case.same(refusal, Refusal::Content),
         _ => case.holds(false),
     }
-}
-
-/// Checks that the call with this number is the last one.
-fn check_beyond<S: Source>(case: &Case<'_, impl Abort>, source: &mut S, mode: Mode, wanted: u64) {
-    let mut calls = 0;
-    let found = mode.decode_lent(source, |cons| collect_on(case.alloc, cons, &mut calls));
-    case.holds(is_refused(found));
-    case.same(calls, wanted);
 }
 
 impl Row for Line {
@@ -176,18 +168,19 @@ impl Row for Line {
         let alloc = case.alloc;
         match self.2 {
             Way::Inside(wanted) => {
-                let found = self
-                    .0
-                    .decode_lent(&mut source, |cons| take_numbers(alloc, cons));
+                let found = read(alloc, self.0, &mut source, &mut InSequence(Numbers));
                 check_numbers(case, found, wanted);
             }
             Way::UpToNull(wanted) => {
-                let found = self
-                    .0
-                    .decode_lent(&mut source, |cons| take_up_to_null(alloc, cons));
+                let found = read(alloc, self.0, &mut source, &mut UpToNull);
                 check_numbers(case, found, Some(wanted));
             }
-            Way::Beyond(calls) => check_beyond(case, &mut source, self.0, calls),
+            Way::Beyond(calls) => {
+                let mut beyond = InSequence(Beyond { calls: 0 });
+                let found = read(alloc, self.0, &mut source, &mut beyond);
+                case.same(found.err(), Some(Refusal::Content));
+                case.same(beyond.0.calls, calls);
+            }
         }
     }
 }
@@ -205,24 +198,23 @@ fn a_failed_source_ends_the_collecting(rt: HostRuntime) {
     let last = 64usize;
     for failing in 1..=last {
         let mut source = failing_sip(&rt, alloc, THREE, failing);
-        let found = Mode::Der.decode_lent(&mut source, |cons| take_numbers(alloc, cons));
+        let found = read(alloc, Mode::Der, &mut source, &mut InSequence(Numbers));
         same(&rt, source.faults(), usize::from(found.is_err()));
         match found {
             Ok(found) => {
                 holds(&rt, failing > 1);
                 same(&rt, found.as_slice(), [3, 1, 2].as_slice());
             }
-            Err(error) => holds(&rt, failing < last && error.is_source()),
+            Err(refusal) => holds(&rt, failing < last && refusal == Refusal::Source),
         }
     }
 }
 
 #[test]
 fn the_refusal_is_that_of_the_closure(rt: HostRuntime) {
-    let alloc = rt.alloc();
-    let octets: &[u8] = &[0x02, 0x01, 0x03, 0x02, 0x01, 0x09];
-    let found = Mode::Der.decode(octets, |cons| collect(alloc, cons));
-    let error = found.err().expect(&rt, "a refusal");
-    let why = error.content_error().expect(&rt, "a reason");
-    shows(&rt, alloc, why, "a nine");
+    let mut source = SliceSource::new(&[0x02, 0x01, 0x03, 0x02, 0x01, 0x09]);
+    match read_or_text(rt.alloc(), Mode::Der, &mut source, &mut Numbers) {
+        Err(Some(text)) => holds(&rt, text.starts_with("a nine (at position ")),
+        _ => holds(&rt, false),
+    }
 }

@@ -2,12 +2,12 @@
 //! they break, and files in each mode that were cut.
 #![tactic(auto, using(bcder::specs::laws::Moved::untouched_is_moved))]
 
-ghost use Rattle.bcder.specs.calls.Views.{Moved};
-
 use crate::asserts::Case;
 use crate::over::{Row, check_over};
+use crate::reading::{Reader, read_or_text};
 use bcder::decode::{Constructed, DecodeError, SliceSource, Source, Violation, walk};
 use bcder::{Mode, Tag};
+use std::alloc::Global;
 use std::process::Abort;
 
 /// A mode in which octets are refused, the octets, the text of the error, and the position.
@@ -22,20 +22,43 @@ struct Skipped<'a>(&'a Line);
 #[derive(Clone, Copy)]
 struct Walked<'a>(&'a Line);
 
+/// Skips all values.
+#[derive(Clone, Copy)]
+struct SkipAll;
+
+impl Reader for SkipAll {
+    type Value = ();
+
+    fn read<S: Source>(
+        &mut self,
+        alloc: Global,
+        cons: &mut Constructed<'_, S>,
+    ) -> Result<(), DecodeError<S::Error>> {
+        cons.skip_all(alloc)
+    }
+}
+
 /// Walks all values.
-fn walk_all<S: Source>(cons: &mut Constructed<'_, S>) -> Result<(), DecodeError<S::Error>>
-    ensures { Moved S.stream cons }
-{
-    cons.while_some(|cons| walk(cons))
+#[derive(Clone, Copy)]
+struct WalkAll;
+
+impl Reader for WalkAll {
+    type Value = ();
+
+    fn read<S: Source>(
+        &mut self,
+        _alloc: Global,
+        cons: &mut Constructed<'_, S>,
+    ) -> Result<(), DecodeError<S::Error>> {
+        cons.while_some(|cons| walk(cons))
+    }
 }
 
 /// Checks that content was refused with the text of a line, at its position.
-fn check<E: Drop>(case: &Case<'_, impl Abort>, line: &Line, outcome: Result<(), DecodeError<E>>) {
+fn check(case: &Case<'_, impl Abort>, line: &Line, outcome: Result<(), Option<String>>) {
+    let wanted = case.done(format!(in case.alloc; "{} (at position {})", line.2, line.3));
     match outcome {
-        Err(DecodeError::Content { error, pos }) => {
-            case.shows(&error, line.2);
-            case.shows(&pos, line.3);
-        }
+        Err(Some(text)) => case.same(text.as_str(), wanted.as_str()),
         _ => case.holds(false),
     }
 }
@@ -46,12 +69,9 @@ impl Row for Skipped<'_> {
     }
 
     fn check<S: Source + Drop, R: Abort>(&self, case: &Case<'_, R>, source: S) {
-        let alloc = case.alloc;
-        check(
-            case,
-            self.0,
-            self.0.0.decode(source, |cons| cons.skip_all(alloc)),
-        );
+        let mut source = source;
+        let found = read_or_text(case.alloc, self.0.0, &mut source, &mut SkipAll);
+        check(case, self.0, found);
     }
 }
 
@@ -61,7 +81,9 @@ impl Row for Walked<'_> {
     }
 
     fn check<S: Source + Drop, R: Abort>(&self, case: &Case<'_, R>, source: S) {
-        check(case, self.0, self.0.0.decode(source, |cons| walk_all(cons)));
+        let mut source = source;
+        let found = read_or_text(case.alloc, self.0.0, &mut source, &mut WalkAll);
+        check(case, self.0, found);
     }
 }
 

@@ -1,11 +1,11 @@
 //! Tests of bit strings: worked values, as they are read and written.
 #![tactic(auto, using(bcder::specs::laws::Moved::steps))]
 
-ghost use Rattle.bcder.specs.calls.Views.{Moved};
-
 use crate::asserts::Case;
 use crate::encodes::{Wanted, are_wanted, refuses};
 use crate::over::{Row, check_over, shared, sip};
+use crate::reading;
+use crate::reading::{Bits, Reader, Refusal};
 use bcder::decode::{Constructed, DecodeError, SliceSource, Source};
 use bcder::encode::{EncodeError, PrimitiveContent, Values};
 use bcder::{BitString, Mode, Tag};
@@ -17,41 +17,38 @@ use std::process::Abort;
 
 /// A reader of a BIT STRING.
 #[derive(Clone, Copy)]
-enum Reader {
+enum Way {
     Take,
     FromContent,
     Skip,
     SkipContent,
 }
 
-const READERS: [Reader; 4] = [
-    Reader::Take,
-    Reader::FromContent,
-    Reader::Skip,
-    Reader::SkipContent,
-];
+const WAYS: [Way; 4] = [Way::Take, Way::FromContent, Way::Skip, Way::SkipContent];
 
-/// Reads the next value, or returns `None` if the reader skipped it.
-fn read<S: Source>(
-    cons: &mut Constructed<'_, S>,
-    alloc: Global,
-    reader: Reader,
-) -> Result<Option<BitString>, DecodeError<S::Error>>
-    ensures { Moved S.stream cons }
-{
-    match reader {
-        Reader::Take => Ok(Some(BitString::take_from(alloc, cons)?)),
-        Reader::FromContent => Ok(Some(cons.take_value_if(
-            Tag::BIT_STRING,
-            |content| BitString::from_content(alloc, content),
-        )?)),
-        Reader::Skip => {
-            BitString::skip_in(cons)?;
-            Ok(None)
-        }
-        Reader::SkipContent => {
-            cons.take_value_if(Tag::BIT_STRING, |content| BitString::skip_content(content))?;
-            Ok(None)
+/// Reads the next value, or returns `None` if it is skipped.
+impl Reader for Way {
+    type Value = Option<BitString>;
+
+    fn read<S: Source>(
+        &mut self,
+        alloc: Global,
+        cons: &mut Constructed<'_, S>,
+    ) -> Result<Option<BitString>, DecodeError<S::Error>> {
+        match self {
+            Way::Take => Ok(Some(BitString::take_from(alloc, cons)?)),
+            Way::FromContent => Ok(Some(cons.take_value_if(
+                Tag::BIT_STRING,
+                |content| BitString::from_content(alloc, content),
+            )?)),
+            Way::Skip => {
+                BitString::skip_in(cons)?;
+                Ok(None)
+            }
+            Way::SkipContent => {
+                cons.take_value_if(Tag::BIT_STRING, |content| BitString::skip_content(content))?;
+                Ok(None)
+            }
         }
     }
 }
@@ -137,7 +134,7 @@ const LINES: [Line; 20] = [
 
 /// A line in a mode, by a reader, and whether it is taken.
 #[derive(Clone, Copy)]
-struct Reading<'a>(&'a Line, Mode, Reader, bool);
+struct Reading<'a>(&'a Line, Mode, Way, bool);
 
 impl Reading<'_> {
     /// Checks a bit string that was read.
@@ -155,18 +152,15 @@ impl Row for Reading<'_> {
 
     fn check<S: Source + Drop, R: Abort>(&self, case: &Case<'_, R>, source: S) {
         let mut source = source;
-        let (alloc, reader, taken) = (case.alloc, self.2, self.3);
-        match self
-            .1
-            .decode_lent(&mut source, |cons| read(cons, alloc, reader))
-        {
+        let (mut way, taken) = (self.2, self.3);
+        match reading::read(case.alloc, self.1, &mut source, &mut way) {
             Ok(found) => {
                 case.holds(taken);
                 if let Some(bits) = found {
                     self.check_bits(case, bits);
                 }
             }
-            Err(error) => case.holds(!taken && error.content_error().is_some()),
+            Err(refusal) => case.holds(!taken && refusal == Refusal::Content),
         }
         if taken {
             case.same(case.done(source.request(64)), self.0.4);
@@ -180,8 +174,8 @@ fn values_that_are_read(rt: HostRuntime) {
     for (row, line) in LINES.iter().enumerate() {
         let [ber, cer, der] = line.1;
         for (mode, taken) in [(Mode::Ber, ber), (Mode::Cer, cer), (Mode::Der, der)] {
-            for reader in READERS {
-                check_over(&rt, rt.alloc(), row, &Reading(line, mode, reader, taken));
+            for way in WAYS {
+                check_over(&rt, rt.alloc(), row, &Reading(line, mode, way, taken));
             }
         }
     }
@@ -198,12 +192,9 @@ fn behind(case: &Case<'_, impl Abort>, front: &[u8], zeros: &[u8]) -> Vec<u8> {
 /// refused.
 fn octets_read(case: &Case<'_, impl Abort>, mode: Mode, octets: &[u8]) -> Option<usize> {
     let alloc = case.alloc;
+    let skipped = reading::read(alloc, mode, &mut SliceSource::new(octets), &mut Way::Skip);
     let mut source = sip(case.rt, alloc, octets);
-    let skipped = mode.decode_lent(
-        &mut SliceSource::new(octets),
-        |cons| BitString::skip_in(cons),
-    );
-    match mode.decode_lent(&mut source, |cons| BitString::take_from(alloc, cons)) {
+    match reading::read(alloc, mode, &mut source, &mut Bits) {
         Ok(bits) => {
             case.holds(skipped.is_ok());
             Some(bits.octet_len())
@@ -277,12 +268,8 @@ fn octets_one_by_one(rt: HostRuntime) {
 
 /// Returns the bit string that octets are in BER.
 fn bits_of(case: &Case<'_, impl Abort>, octets: &[u8]) -> BitString {
-    let alloc = case.alloc;
-    let taken = Mode::Ber.decode(
-        shared(case.rt, alloc, octets),
-        |cons| BitString::take_from(alloc, cons),
-    );
-    case.done(taken)
+    let mut source = shared(case.rt, case.alloc, octets);
+    case.done(reading::read(case.alloc, Mode::Ber, &mut source, &mut Bits))
 }
 
 /// Checks that unused bits are compared too.

@@ -2,10 +2,9 @@
 //! allocate for octets that mean something.
 #![tactic(auto, using(bcder::specs::laws::Moved::steps))]
 
-ghost use Rattle.bcder.specs.calls.Views.{Moved};
-
-use crate::asserts::{Case, done, is_refused};
+use crate::asserts::{Case, done};
 use crate::over::{Row, check_all, check_over};
+use crate::reading::{Reader, Refusal, read};
 use bcder::decode::{Constructed, DecodeError, Source};
 use bcder::string::Utf8String;
 use bcder::{BitString, Integer, Mode, OctetString, Oid, Unsigned};
@@ -14,7 +13,7 @@ use std::process::Abort;
 
 /// A reader that allocates.
 #[derive(Clone, Copy)]
-enum Reader {
+enum Kind {
     Integer,
     Unsigned,
     Oid,
@@ -34,61 +33,55 @@ fn dropped<T: Drop, E>(found: Result<T, E>) -> Result<(), E> {
 }
 
 /// Reads the next value, and drops what is read.
-fn read<S: Source>(
-    cons: &mut Constructed<'_, S>,
-    alloc: Global,
-    reader: Reader,
-) -> Result<(), DecodeError<S::Error>>
-    ensures { Moved S.stream cons }
-{
-    match reader {
-        Reader::Integer => dropped(Integer::take_from(alloc, cons)),
-        Reader::Unsigned => dropped(Unsigned::take_from(alloc, cons)),
-        Reader::Oid => dropped(Oid::take_from(alloc, cons)),
-        Reader::Bits => dropped(BitString::take_from(alloc, cons)),
-        Reader::Octets => dropped(OctetString::take_from(alloc, cons)),
-        Reader::Utf8 => dropped(Utf8String::take_from(alloc, cons)),
-        Reader::One => dropped(cons.capture_one(alloc)),
-        Reader::All => dropped(cons.capture_all(alloc)),
+impl Reader for Kind {
+    type Value = ();
+
+    fn read<S: Source>(
+        &mut self,
+        alloc: Global,
+        cons: &mut Constructed<'_, S>,
+    ) -> Result<(), DecodeError<S::Error>> {
+        match self {
+            Kind::Integer => dropped(Integer::take_from(alloc, cons)),
+            Kind::Unsigned => dropped(Unsigned::take_from(alloc, cons)),
+            Kind::Oid => dropped(Oid::take_from(alloc, cons)),
+            Kind::Bits => dropped(BitString::take_from(alloc, cons)),
+            Kind::Octets => dropped(OctetString::take_from(alloc, cons)),
+            Kind::Utf8 => dropped(Utf8String::take_from(alloc, cons)),
+            Kind::One => dropped(cons.capture_one(alloc)),
+            Kind::All => dropped(cons.capture_all(alloc)),
+        }
     }
 }
 
 /// A mode, octets, and a reader that refuses them for what they are.
 #[derive(Clone, Copy)]
-struct Line<'a>(Mode, &'a [u8], Reader);
+struct Line<'a>(Mode, &'a [u8], Kind);
 
 const LINES: [Line<'_>; 15] = [
     // no number, identifier or bits
-    Line(Mode::Ber, &[0x02, 0x02, 0x00, 0x05], Reader::Integer),
-    Line(Mode::Der, &[0x02, 0x01, 0x80], Reader::Unsigned),
-    Line(Mode::Der, &[0x06, 0x01, 0x80], Reader::Oid),
-    Line(Mode::Der, &[0x03, 0x02, 0x03, 0xFF], Reader::Bits),
+    Line(Mode::Ber, &[0x02, 0x02, 0x00, 0x05], Kind::Integer),
+    Line(Mode::Der, &[0x02, 0x01, 0x80], Kind::Unsigned),
+    Line(Mode::Der, &[0x06, 0x01, 0x80], Kind::Oid),
+    Line(Mode::Der, &[0x03, 0x02, 0x03, 0xFF], Kind::Bits),
     // no string
-    Line(Mode::Der, &[0x24, 0x03, 0x04, 0x01, 0x61], Reader::Octets),
-    Line(Mode::Ber, &[0x24, 0x03, 0x02, 0x01, 0x05], Reader::Octets),
+    Line(Mode::Der, &[0x24, 0x03, 0x04, 0x01, 0x61], Kind::Octets),
+    Line(Mode::Ber, &[0x24, 0x03, 0x02, 0x01, 0x05], Kind::Octets),
     Line(
         Mode::Cer,
         &[0x24, 0x80, 0x04, 0x01, 0x61, 0x00, 0x00],
-        Reader::Octets,
+        Kind::Octets,
     ),
-    Line(Mode::Der, &[0x02, 0x01, 0x05], Reader::Octets),
+    Line(Mode::Der, &[0x02, 0x01, 0x05], Kind::Octets),
     // no characters
-    Line(Mode::Der, &[0x0C, 0x02, 0xC3, 0xE9], Reader::Utf8),
-    Line(
-        Mode::Ber,
-        &[0x2C, 0x04, 0x04, 0x02, 0xC3, 0xE9],
-        Reader::Utf8,
-    ),
-    Line(Mode::Der, &[0x2C, 0x03, 0x04, 0x01, 0x61], Reader::Utf8),
-    Line(Mode::Der, &[0x04, 0x01, 0x61], Reader::Utf8),
+    Line(Mode::Der, &[0x0C, 0x02, 0xC3, 0xE9], Kind::Utf8),
+    Line(Mode::Ber, &[0x2C, 0x04, 0x04, 0x02, 0xC3, 0xE9], Kind::Utf8),
+    Line(Mode::Der, &[0x2C, 0x03, 0x04, 0x01, 0x61], Kind::Utf8),
+    Line(Mode::Der, &[0x04, 0x01, 0x61], Kind::Utf8),
     // not there
-    Line(Mode::Der, &[], Reader::One),
-    Line(Mode::Der, &[0x04, 0x05, 0x01], Reader::One),
-    Line(
-        Mode::Ber,
-        &[0x02, 0x01, 0x05, 0x04, 0x05, 0x01],
-        Reader::All,
-    ),
+    Line(Mode::Der, &[], Kind::One),
+    Line(Mode::Der, &[0x04, 0x05, 0x01], Kind::One),
+    Line(Mode::Ber, &[0x02, 0x01, 0x05, 0x04, 0x05, 0x01], Kind::All),
 ];
 
 impl Row for Line<'_> {
@@ -98,11 +91,9 @@ impl Row for Line<'_> {
 
     fn check<S: Source + Drop, R: Abort>(&self, case: &Case<'_, R>, source: S) {
         let mut source = source;
-        let (alloc, reader) = (case.alloc, self.2);
-        let found = self
-            .0
-            .decode_lent(&mut source, |cons| read(cons, alloc, reader));
-        case.holds(is_refused(found));
+        let mut kind = self.2;
+        let found = read(case.alloc, self.0, &mut source, &mut kind);
+        case.same(found, Err(Refusal::Content));
     }
 }
 
@@ -124,12 +115,12 @@ fn piece(rt: &impl Abort, alloc: Global, tag: u8) -> Vec<u8> {
 
 #[test]
 fn a_long_string_in_one_piece(rt: HostRuntime) {
-    for (row, (tag, reader)) in [(0x04, Reader::Octets), (0x0C, Reader::Utf8)]
+    for (row, (tag, kind)) in [(0x04, Kind::Octets), (0x0C, Kind::Utf8)]
         .iter()
         .enumerate()
     {
         let octets = piece(&rt, rt.alloc(), *tag);
-        let line = Line(Mode::Cer, octets.as_slice(), *reader);
+        let line = Line(Mode::Cer, octets.as_slice(), *kind);
         check_over(&rt, rt.alloc(), row, &line);
     }
 }

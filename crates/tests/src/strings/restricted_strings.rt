@@ -3,7 +3,9 @@
 use super::char_sets::Set;
 use crate::asserts::Case;
 use crate::over::{Row, check_all};
-use bcder::decode::{DecodeError, SliceSource, Source};
+use crate::reading;
+use crate::reading::Reader;
+use bcder::decode::{Constructed, DecodeError, SliceSource, Source};
 use bcder::encode::Values;
 use bcder::string::{
     CharSet, Ia5CharSet, NumericCharSet, PrintableCharSet, RestrictedString, StringError,
@@ -12,7 +14,6 @@ use bcder::string::{
 use bcder::{Mode, OctetString, Tag};
 use bytes::Bytes;
 use std::alloc::Global;
-use std::convert::Infallible;
 use std::process::Abort;
 use user::latin_1::Latin1;
 
@@ -97,13 +98,22 @@ fn strings_that_are_read(rt: HostRuntime) {
     check_all(&rt, rt.alloc(), &LINES);
 }
 
-/// Reads a string after a NULL.
-#[tactic(auto, using(bcder::specs::laws::Moved::steps))]
-fn read_behind(alloc: Global, octets: &[u8]) -> Result<Utf8String, DecodeError<Infallible>> {
-    Mode::Ber.decode(SliceSource::new(octets), |cons| {
+/// Takes a string after a NULL, and returns its length.
+#[derive(Clone, Copy)]
+struct AfterNull;
+
+impl Reader for AfterNull {
+    type Value = usize;
+
+    #[tactic(auto, using(bcder::specs::laws::Moved::steps))]
+    fn read<S: Source>(
+        &mut self,
+        alloc: Global,
+        cons: &mut Constructed<'_, S>,
+    ) -> Result<usize, DecodeError<S::Error>> {
         cons.take_null()?;
-        Utf8String::take_from(alloc, cons)
-    })
+        Ok(Utf8String::take_from(alloc, cons)?.len())
+    }
 }
 
 /// Strings after a NULL. Characters are refused at the position where the content begins that they
@@ -118,9 +128,10 @@ const BEHIND: [&[u8]; 3] = [
 fn where_a_string_is_refused(rt: HostRuntime) {
     for (row, octets) in BEHIND.iter().enumerate() {
         let case = Case::new(&rt, rt.alloc(), row);
-        match read_behind(rt.alloc(), *octets) {
-            Ok(_) => case.holds(false),
-            Err(error) => case.shows(&error, "invalid character (at position 4)"),
+        let mut source = SliceSource::new(*octets);
+        match reading::read_or_text(rt.alloc(), Mode::Ber, &mut source, &mut AfterNull) {
+            Err(Some(text)) => case.same(text.as_str(), "invalid character (at position 4)"),
+            _ => case.holds(false),
         }
     }
 }

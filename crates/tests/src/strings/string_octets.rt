@@ -1,5 +1,7 @@
 //! Tests of octet strings by their octets, whether they were cut or not.
 use crate::asserts::Case;
+use crate::reading;
+use crate::reading::Octets;
 use bcder::decode::SliceSource;
 use bcder::{Mode, OctetString};
 use bytes::Bytes;
@@ -161,12 +163,9 @@ fn no_hasher_is_called_for_each_octet(rt: HostRuntime) {
 // ---- strings that were cut
 
 /// Reads a string in a mode.
-#[tactic(auto, using(bcder::specs::laws::Moved::steps))]
 pub(crate) fn read_in(case: &Case<'_, impl Abort>, mode: Mode, encoding: &[u8]) -> OctetString {
-    let alloc = case.alloc;
     let mut source = SliceSource::new(encoding);
-    let read = mode.decode_lent(&mut source, |cons| OctetString::take_from(alloc, cons));
-    case.done(read)
+    case.done(reading::read(case.alloc, mode, &mut source, &mut Octets))
 }
 
 /// Reads a string in BER.

@@ -2,10 +2,10 @@
 //! nested, and what is left if none is read. What a row of octets holds is data, in `vectors`.
 #![tactic(auto, using(bcder::specs::laws::Moved::steps))]
 
-ghost use Rattle.bcder.specs.calls.Views.{Moved};
-
 use crate::asserts::Case;
 use crate::over::{Row, check_all, check_over, failing_sip};
+use crate::reading;
+use crate::reading::{Octets, Reader, Refusal};
 use bcder::decode::{Constructed, ContentError, DecodeError, SliceSource, Source};
 use bcder::{Mode, OctetString, Tag};
 use std::alloc::Global;
@@ -40,13 +40,11 @@ fn cut(case: &Case<'_, impl Abort>, lens: &[usize]) -> Vec<u8> {
 
 /// Returns the string that all octets of a source are, if they are one.
 fn read<S: Source>(alloc: Global, mode: Mode, source: &mut S) -> Option<OctetString> {
-    let string = match mode.decode_lent(source, |cons| OctetString::take_from(alloc, cons)) {
-        Ok(string) => string,
-        Err(_) => return None,
-    };
-    match source.take_opt_u8() {
-        Ok(None) => Some(string),
-        _ => None,
+    let string = reading::read(alloc, mode, source, &mut Octets).ok()?;
+    if matches!(source.take_opt_u8(), Ok(None)) {
+        Some(string)
+    } else {
+        None
     }
 }
 
@@ -227,50 +225,66 @@ fn expects<T: Drop, E: Drop>(outcome: Result<T, DecodeError<E>>, tag: Tag) -> bo
     }
 }
 
-/// Checks that there is no string, and that the INTEGER 5, which is there, is left.
-fn take_five<S: Source>(
-    case: &Case<'_, impl Abort>,
-    cons: &mut Constructed<'_, S>,
-) -> Result<(), DecodeError<S::Error>>
-    ensures { Moved S.stream cons }
-{
-    case.holds(OctetString::take_opt_from(case.alloc, cons)?.is_none());
-    let refused = OctetString::take_from(case.alloc, cons);
-    case.holds(expects(refused, Tag::OCTET_STRING));
-    case.same(cons.take_u8()?, 5);
-    case.holds(OctetString::take_opt_from(case.alloc, cons)?.is_none());
-    Ok(())
-}
+/// Takes the INTEGER 5. Says whether no string is taken before it, nor behind it.
+#[derive(Clone, Copy)]
+struct Five;
 
-/// Returns the string that the content of a value with another tag is.
-fn read_tagged<S: Source>(alloc: Global, mode: Mode, source: &mut S) -> Option<OctetString> {
-    let read = mode.decode_lent(source, |cons| {
-        cons.take_value_if(Tag::CTX_0, |content| {
-            OctetString::from_content(alloc, content)
-        })
-    });
-    match read {
-        Ok(string) => Some(string),
-        Err(_) => None,
+impl Reader for Five {
+    type Value = bool;
+
+    fn read<S: Source>(
+        &mut self,
+        alloc: Global,
+        cons: &mut Constructed<'_, S>,
+    ) -> Result<bool, DecodeError<S::Error>> {
+        let absent = OctetString::take_opt_from(alloc, cons)?.is_none();
+        let refused = OctetString::take_from(alloc, cons);
+        let expected = expects(refused, Tag::OCTET_STRING);
+        let five = cons.take_u8()? == 5;
+        let none = OctetString::take_opt_from(alloc, cons)?.is_none();
+        Ok(absent & expected & five & none)
     }
 }
 
-/// Takes the string "a", and behind it "abc" with the tag `[0]`.
-fn take_another_tag<S: Source>(
-    case: &Case<'_, impl Abort>,
-    cons: &mut Constructed<'_, S>,
-) -> Result<(), DecodeError<S::Error>>
-    ensures { Moved S.stream cons }
-{
-    let absent = OctetString::take_opt_if(case.alloc, cons, Tag::CTX_0)?;
-    case.holds(absent.is_none());
-    let first = OctetString::take_from(case.alloc, cons)?;
-    case.holds(first.eq_octets(b"a"));
-    match OctetString::take_opt_if(case.alloc, cons, Tag::CTX_0)? {
-        Some(string) => case.holds(string.eq_octets(b"abc")),
-        None => case.holds(false),
+/// Takes the string that the content of a value with another tag is.
+#[derive(Clone, Copy)]
+struct Tagged;
+
+impl Reader for Tagged {
+    type Value = OctetString;
+
+    fn read<S: Source>(
+        &mut self,
+        alloc: Global,
+        cons: &mut Constructed<'_, S>,
+    ) -> Result<OctetString, DecodeError<S::Error>> {
+        cons.take_value_if(
+            Tag::CTX_0,
+            |content| OctetString::from_content(alloc, content),
+        )
     }
-    Ok(())
+}
+
+/// Takes the string "a", and behind it "abc" with the tag `[0]`. Says whether it is these.
+#[derive(Clone, Copy)]
+struct Two;
+
+impl Reader for Two {
+    type Value = bool;
+
+    fn read<S: Source>(
+        &mut self,
+        alloc: Global,
+        cons: &mut Constructed<'_, S>,
+    ) -> Result<bool, DecodeError<S::Error>> {
+        let absent = OctetString::take_opt_if(alloc, cons, Tag::CTX_0)?.is_none();
+        let first = OctetString::take_from(alloc, cons)?.eq_octets(b"a");
+        let second = match OctetString::take_opt_if(alloc, cons, Tag::CTX_0)? {
+            Some(string) => string.eq_octets(b"abc"),
+            None => false,
+        };
+        Ok(absent & first & second)
+    }
 }
 
 /// What is read.
@@ -291,21 +305,6 @@ enum Way {
 #[derive(Clone, Copy)]
 struct Line(Mode, &'static [u8], Way);
 
-impl Line {
-    /// Checks the string that the content of a value is.
-    fn check_content<S: Source>(
-        self,
-        case: &Case<'_, impl Abort>,
-        source: &mut S,
-        wanted: Option<&[u8]>,
-    ) {
-        match (read_tagged(case.alloc, self.0, source), wanted) {
-            (Some(string), Some(octets)) => case.holds(string.eq_octets(octets)),
-            (found, wanted) => case.holds(found.is_none() && wanted.is_none()),
-        }
-    }
-}
-
 impl Row for Line {
     fn octets(&self) -> &[u8] {
         self.1
@@ -313,15 +312,31 @@ impl Row for Line {
 
     fn check<S: Source + Drop, R: Abort>(&self, case: &Case<'_, R>, source: S) {
         let mut source = source;
+        let alloc = case.alloc;
         match self.2 {
-            Way::Content(wanted) => self.check_content(case, &mut source, wanted),
-            Way::Second(taken) => {
-                match self.0.decode(source, |cons| take_another_tag(case, cons)) {
-                    Ok(()) => case.holds(taken),
-                    Err(error) => case.holds(!taken && error.content_error().is_some()),
+            Way::Content(wanted) => {
+                match (
+                    reading::read(alloc, self.0, &mut source, &mut Tagged),
+                    wanted,
+                ) {
+                    (Ok(string), Some(octets)) => case.holds(string.eq_octets(octets)),
+                    (found, wanted) => case.holds(found.is_err() && wanted.is_none()),
                 }
             }
-            Way::Absent => case.done(self.0.decode(source, |cons| take_five(case, cons))),
+            Way::Second(taken) => {
+                let wanted = if taken {
+                    Ok(true)
+                } else {
+                    Err(Refusal::Content)
+                };
+                case.same(reading::read(alloc, self.0, &mut source, &mut Two), wanted);
+            }
+            Way::Absent => {
+                case.same(
+                    reading::read(alloc, self.0, &mut source, &mut Five),
+                    Ok(true),
+                );
+            }
         }
     }
 }
@@ -454,10 +469,10 @@ fn check_failing(
 ) {
     let alloc = case.alloc;
     let mut source = failing_sip(case.rt, alloc, octets, failing);
-    match mode.decode_lent(&mut source, |cons| OctetString::take_from(alloc, cons)) {
+    match reading::read(alloc, mode, &mut source, &mut Octets) {
         Ok(string) => case.same(Some(string.iter().count()), parts),
-        Err(error) if error.is_source() => case.same(source.faults(), 1),
-        Err(error) => case.holds(error.content_error().is_some() && parts.is_none()),
+        Err(Refusal::Source) => case.same(source.faults(), 1),
+        Err(refusal) => case.holds(refusal == Refusal::Content && parts.is_none()),
     }
     case.holds(failing > 1 || source.faults() == 1);
     case.holds(failing < REQUESTS || source.faults() == 0);
