@@ -26,9 +26,9 @@ impl Definition for Version {
 
 impl<S: Source> DecodeDefinition<S> for Version {}
 
-const FIVE: &str = "Sequence((5, ExtensionAdditions))";
+const FIVE: &str = "Version { number: 5 }";
 
-const EXTENSIBLE: [Read; 10] = [
+const VERSION: [Read; 11] = [
     // none, one and two are passed over
     (Mode::Der, &[0x30, 0x03, 0x02, 0x01, 0x05], FIVE),
     (
@@ -76,17 +76,16 @@ const EXTENSIBLE: [Read; 10] = [
         "refused",
     ),
     (Mode::Ber, &[0x30, 0x03, 0x04, 0x01, 0x07], "refused"),
+    // one
+    (
+        Mode::Der,
+        &[0x30, 0x06, 0x02, 0x01, 0x05, 0x04, 0x01, 0x07],
+        FIVE,
+    ),
 ];
-
-const VERSION: [Read; 1] = [(
-    Mode::Der,
-    &[0x30, 0x06, 0x02, 0x01, 0x05, 0x04, 0x01, 0x07],
-    "Version { number: 5 }",
-)];
 
 #[test]
 fn additions_are_passed_over(rt: HostRuntime) {
-    reads::<Extensible>(&rt, rt.alloc(), &EXTENSIBLE);
     reads::<Version>(&rt, rt.alloc(), &VERSION);
 }
 
@@ -95,12 +94,12 @@ const FOLLOWED: [Read; 1] = [(
     &[
         0x30, 0x0B, 0x30, 0x06, 0x02, 0x01, 0x05, 0x04, 0x01, 0x07, 0x02, 0x01, 0x09,
     ],
-    "Sequence((Sequence((5, ExtensionAdditions)), 9))",
+    "Sequence((Version { number: 5 }, 9))",
 )];
 
 #[test]
 fn what_follows_the_sequence_stays(rt: HostRuntime) {
-    reads::<Sequence<(Extensible, u32)>>(&rt, rt.alloc(), &FOLLOWED);
+    reads::<Sequence<(Version, u32)>>(&rt, rt.alloc(), &FOLLOWED);
 }
 
 const ADDITIONS: [Read; 1] = [(

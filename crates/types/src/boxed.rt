@@ -1,5 +1,5 @@
 //! Fields in memory of their own. Expected values are worked by hand from X.690, 8.3 and 8.9.
-use crate::rows::{Read, reads, writes};
+use crate::rows::{Read, Written, reads_and_rewrites};
 use asn1::Sequence;
 use bcder::Mode;
 
@@ -26,22 +26,13 @@ const TWO: [Read; 4] = [
     ),
 ];
 
-#[test]
-fn a_boxed_number_is_read(rt: HostRuntime) {
-    reads::<Two>(&rt, rt.alloc(), &TWO);
-}
+const WRITTEN: [Written; 1] = [(
+    &[0x30, 0x06, 0x02, 0x01, 0x05, 0x02, 0x01, 0x07],
+    Mode::Der,
+    &[0x30, 0x06, 0x02, 0x01, 0x05, 0x02, 0x01, 0x07],
+)];
 
 #[test]
-fn a_boxed_number_is_written(rt: HostRuntime) {
-    let octets: [u8; 8] = [0x30, 0x06, 0x02, 0x01, 0x05, 0x02, 0x01, 0x07];
-    match Box::new(rt.alloc(), 7u32) {
-        Ok(second) => writes(
-            &rt,
-            rt.alloc(),
-            &Sequence((5u32, second)),
-            Mode::Der,
-            &octets,
-        ),
-        Err(_) => panic!(rt; "no memory"),
-    }
+fn a_boxed_number_is_read_and_written(rt: HostRuntime) {
+    reads_and_rewrites::<Two>(&rt, rt.alloc(), &TWO, &WRITTEN);
 }

@@ -2,7 +2,7 @@
 ghost use Rattle.std.specs.Prelude.{refl};
 ghost use Rattle.asn1.specs.declared.choice.Choice2.TheVariants.{One, Two};
 
-use crate::rows::{Read, reads, takes, writes};
+use crate::rows::{Read, lends, takes, writes};
 use asn1::{
     ByRef, Choice2, Context, DecodeDefinition, Definition, Encode, EncodeDefinition, Explicit,
     OctetStringRef, Sequence, UseParts,
@@ -144,7 +144,7 @@ const ENTRY: [Read; 1] = [(
 
 #[test]
 fn octets_are_lent(rt: HostRuntime) {
-    reads::<Entry>(&rt, rt.alloc(), &ENTRY);
+    lends::<Entry>(&rt, rt.alloc(), &ENTRY);
 }
 
 #[test]

@@ -561,11 +561,11 @@ fn types_need_no_names(rt: HostRuntime) {
     explains::<SequenceOf<Sequence<(u8, Box<bool>)>>>(&rt, alloc, &PAIRS);
 }
 
-/// Returns the position of an error of octets, if their content was refused.
+/// Returns the position of an error, if it has one.
 fn position(error: &TypeError) -> Option<usize> {
-    match (error.position(), error.error.content_error()) {
-        (Some(position), Some(_)) => Some(usize::from(position)),
-        _ => None,
+    match error.position() {
+        Some(position) => Some(usize::from(position)),
+        None => None,
     }
 }
 
@@ -574,6 +574,9 @@ fn an_error_has_a_position(rt: HostRuntime) {
     let octets: &[u8] = &[0x30, 0x04, 0x02, 0x02, 0x01, 0x00];
     match decode_octets::<Range>(rt.alloc(), Mode::Der, octets) {
         Ok(_) => panic!(rt; "read"),
-        Err(error) => assert_eq!(rt; position(&error), Some(4)),
+        Err(error) => {
+            assert_eq!(rt; position(&error), Some(4));
+            assert!(rt; error.error.content_error().is_some());
+        }
     }
 }

@@ -63,16 +63,9 @@ const LIST: [Read; 1] = [(
     "Implicit { value: Sequence([5]) }",
 )];
 
-const EXPLICIT: [Read; 1] = [(
-    Mode::Der,
-    &[0xA1, 0x03, 0x02, 0x01, 0x06],
-    "Implicit { value: Explicit { value: 6 } }",
-)];
-
 #[test]
-fn constructed_types_are_tagged(rt: HostRuntime) {
+fn a_list_is_tagged(rt: HostRuntime) {
     takes::<Implicit<Context<0>, Sequence<Vec<u32>>>>(&rt, rt.alloc(), &LIST);
-    takes::<Implicit<Context<1>, Explicit<Context<2>, u32>>>(&rt, rt.alloc(), &EXPLICIT);
 }
 
 /// `[2] IMPLICIT SEQUENCE { INTEGER, INTEGER }`.
@@ -89,6 +82,15 @@ const FIELDS_WRITTEN: [Written; 3] = [
 ];
 
 /// `[1] IMPLICIT [0] EXPLICIT INTEGER`.
+type Tagged = Implicit<Context<1>, Explicit<Context<0>, u32>>;
+
+const EXPLICIT: [Read; 1] = [(
+    Mode::Der,
+    &[0xA1, 0x03, 0x02, 0x01, 0x06],
+    "Implicit { value: Explicit { value: 6 } }",
+)];
+
+/// A value of this type.
 const TAGGED: &[u8] = &[0xA1, 0x03, 0x02, 0x01, 0x05];
 
 const TAGGED_WRITTEN: [Written; 3] = [
@@ -105,5 +107,5 @@ const TAGGED_WRITTEN: [Written; 3] = [
 #[test]
 fn the_implicit_tag_is_written(rt: HostRuntime) {
     rewrites::<Implicit<Context<2>, Sequence<(u32, u32)>>>(&rt, rt.alloc(), &FIELDS_WRITTEN);
-    rewrites::<Implicit<Context<1>, Explicit<Context<0>, u32>>>(&rt, rt.alloc(), &TAGGED_WRITTEN);
+    takes_and_rewrites::<Tagged>(&rt, rt.alloc(), &EXPLICIT, &TAGGED_WRITTEN);
 }

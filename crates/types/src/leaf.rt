@@ -1,5 +1,5 @@
 //! A leaf of a user's own.
-ghost use Rattle.std.specs.Prelude.{ℕ, ◌≡◌, ◌∷◌, [], IfOk};
+ghost use Rattle.std.specs.Prelude.{ℕ, ◌≡◌, ◌∷◌, []};
 ghost use Rattle.std.proofs.Common.{rules};
 ghost use Rattle.bcder.specs.x690.Identifier.{universal};
 ghost use Rattle.asn1.specs.Markers.{universal_tagged};
@@ -7,12 +7,10 @@ ghost use Rattle.bcder.specs.calls.Meaning.{PieceMeans};
 ghost use Rattle.bcder.specs.declared.encode.error.EncodeError.TheVariants.{LongCerPrimitive};
 ghost use Rattle.bcder.specs.laws.Meanings.{PieceMeans_lawful};
 
-use crate::rows::{Read, reads, writes};
-use asn1::laws::round_trip;
-use asn1::{ClearContents, FromContents, Leaf, ToContents, Type};
+use crate::rows::{Again, Read, come_back, reads};
+use asn1::{ClearContents, FromContents, Leaf, ToContents};
 use bcder::encode::{EncodeError, PrimitiveContent, WriteError};
 use bcder::{Mode, Tag};
-use std::alloc::Global;
 use std::io;
 
 /// An ENUMERATED of one octet.
@@ -81,35 +79,35 @@ impl ClearContents for Level {
     }
 }
 
-/// Encodes a level and decodes it: it is the same.
-fn level_again(alloc: Global, mode: Mode, x: &Leaf<Level>) -> Result<Leaf<Level>, EncodeError>
-    ensures { IfOk result (λ y.
-        ⟦<Leaf<Level> as Type>⟧.key y ≡ ⟦<Leaf<Level> as Type>⟧.key x.now) }
-{
-    round_trip(alloc, mode, x)
-}
-
 const LEVEL: [Read; 2] = [
     (Mode::Der, &[0x0A, 0x01, 0x05], "Leaf(Level(5))"),
     (Mode::Der, &[0x0A, 0x02, 0x05, 0x06], "refused"),
 ];
 
+/// In each mode it is written so, and comes back.
+const AGAIN: [Again; 3] = [
+    (
+        Mode::Der,
+        &[0x0A, 0x01, 0x05],
+        Mode::Ber,
+        &[0x0A, 0x01, 0x05],
+    ),
+    (
+        Mode::Der,
+        &[0x0A, 0x01, 0x05],
+        Mode::Cer,
+        &[0x0A, 0x01, 0x05],
+    ),
+    (
+        Mode::Der,
+        &[0x0A, 0x01, 0x05],
+        Mode::Der,
+        &[0x0A, 0x01, 0x05],
+    ),
+];
+
 #[test]
 fn one_octet_is_read_and_written(rt: HostRuntime) {
     reads::<Leaf<Level>>(&rt, rt.alloc(), &LEVEL);
-    writes(
-        &rt,
-        rt.alloc(),
-        &Leaf(Level(5)),
-        Mode::Der,
-        &[0x0A, 0x01, 0x05],
-    );
-}
-
-#[test]
-fn a_leaf_comes_back(rt: HostRuntime) {
-    for mode in [Mode::Ber, Mode::Cer, Mode::Der] {
-        let y = level_again(rt.alloc(), mode, &Leaf(Level(5))).expect(&rt, "refused");
-        assert_eq!(rt; y.0.0, 5);
-    }
+    come_back::<Leaf<Level>>(&rt, rt.alloc(), &AGAIN);
 }

@@ -1,5 +1,5 @@
 //! Octets that are lent (X.690, 8.7, 9.2).
-use crate::rows::{Read, Written, done, reads, reads_and_rewrites};
+use crate::rows::{Read, Written, done, lends, lends_and_rewrites};
 use asn1::{
     Ia5StringRef, NumericStringRef, OctetStringRef, PrintableStringRef, Utf8StringRef, decode,
     encode,
@@ -38,7 +38,7 @@ const WRITTEN: [Written; 3] = [
 
 #[test]
 fn lent_octets_are_read_and_written(rt: HostRuntime) {
-    reads_and_rewrites::<OctetStringRef<&[u8]>>(&rt, rt.alloc(), &LENT, &WRITTEN);
+    lends_and_rewrites::<OctetStringRef<&[u8]>>(&rt, rt.alloc(), &LENT, &WRITTEN);
 }
 
 /// Returns how many octets are written of lent ones.
@@ -144,8 +144,8 @@ fn lent_characters_are_text(rt: HostRuntime) {
 
 #[test]
 fn lent_characters_are_read_and_written(rt: HostRuntime) {
-    reads_and_rewrites::<Utf8StringRef<&[u8]>>(&rt, rt.alloc(), &UTF8, &TEXTS);
-    reads::<NumericStringRef<&[u8]>>(&rt, rt.alloc(), &NUMERIC);
-    reads::<PrintableStringRef<&[u8]>>(&rt, rt.alloc(), &PRINTABLE);
-    reads::<Ia5StringRef<&[u8]>>(&rt, rt.alloc(), &IA5);
+    lends_and_rewrites::<Utf8StringRef<&[u8]>>(&rt, rt.alloc(), &UTF8, &TEXTS);
+    lends::<NumericStringRef<&[u8]>>(&rt, rt.alloc(), &NUMERIC);
+    lends::<PrintableStringRef<&[u8]>>(&rt, rt.alloc(), &PRINTABLE);
+    lends::<Ia5StringRef<&[u8]>>(&rt, rt.alloc(), &IA5);
 }

@@ -6,9 +6,10 @@ use crate::cut::{Cut, IsCut};
 use asn1::laws::round_trip;
 use asn1::{Clear, Decode, Encode, TypeError, decode, decode_octets, encode};
 use bcder::Mode;
-use bcder::decode::{BytesSource, DecodeError, SliceSource, Source};
+use bcder::decode::{BytesSource, DecodeError, SliceSource};
 use bytes::Bytes;
 use std::alloc::Global;
+use std::convert::Infallible;
 use std::fmt::Debug;
 use std::process::Abort;
 
@@ -54,8 +55,22 @@ fn is_same(rt: &impl Abort, mode: Mode, found: &[u8], wanted: &[u8]) {
     assert_eq!(rt; found, wanted, "in {mode:?}");
 }
 
+/// Returns a copy of octets, which a reader shares.
+fn shared(rt: &impl Abort, alloc: Global, octets: &[u8]) -> Bytes {
+    done(rt, Bytes::copy_from_slice(alloc, octets))
+}
+
 /// Reads the octets of each row as one value of a type.
-pub fn reads<'a, T: Decode<SliceSource<'a>> + Debug>(
+pub fn reads<T: Decode<BytesSource> + Debug>(rt: &impl Abort, alloc: Global, rows: &[Read<'_>]) {
+    for (mode, octets, wanted) in rows {
+        let value = decode::<T, Bytes>(alloc, *mode, shared(rt, alloc, octets)).ok();
+        let found = shown(rt, alloc, value, "refused");
+        is_shown(rt, *mode, octets, found.as_str(), wanted);
+    }
+}
+
+/// Does so with a type of octets that are lent.
+pub fn lends<'a, T: Decode<SliceSource<'a>> + Debug>(
     rt: &impl Abort,
     alloc: Global,
     rows: &[Read<'a>],
@@ -119,22 +134,18 @@ pub fn fails<T: Decode<Cut> + Debug>(rt: &impl Abort, alloc: Global, rows: &[Rea
 }
 
 /// Takes the next value of a type, if it comes next.
-fn next<S: Source + Drop, T: Decode<S>>(
+fn next<T: Decode<BytesSource>>(
     alloc: Global,
     mode: Mode,
-    source: S,
-) -> Result<Option<T>, DecodeError<S::Error>> {
-    mode.decode(source, |cons| T::take_opt_from(alloc, cons))
+    octets: Bytes,
+) -> Result<Option<T>, DecodeError<Infallible>> {
+    mode.decode(octets, |cons| T::take_opt_from(alloc, cons))
 }
 
 /// Takes a value of a type from the front of the octets of each row.
-pub fn takes<'a, T: Decode<SliceSource<'a>> + Debug>(
-    rt: &impl Abort,
-    alloc: Global,
-    rows: &[Read<'a>],
-) {
+pub fn takes<T: Decode<BytesSource> + Debug>(rt: &impl Abort, alloc: Global, rows: &[Read<'_>]) {
     for (mode, octets, wanted) in rows {
-        let found = match next::<SliceSource<'a>, T>(alloc, *mode, SliceSource::new(octets)) {
+        let found = match next::<T>(alloc, *mode, shared(rt, alloc, octets)) {
             Ok(value) => shown(rt, alloc, value, "none"),
             Err(_) => shown(rt, alloc, None::<T>, "refused"),
         };
@@ -142,24 +153,38 @@ pub fn takes<'a, T: Decode<SliceSource<'a>> + Debug>(
     }
 }
 
-/// Reads the octets of some rows, and writes the values of others. A call costs a proof by its type,
-/// so both are one.
-pub fn reads_and_rewrites<'a, T: Encode + Decode<SliceSource<'a>> + Debug>(
+/// Reads the octets of some rows, and writes the values of others. A call costs a proof by its type
+/// and its source, so both are one, and the source is a plain one.
+pub fn reads_and_rewrites<T: Encode + Decode<BytesSource> + Debug>(
     rt: &impl Abort,
     alloc: Global,
-    rows: &[Read<'a>],
-    written: &[Written<'a>],
+    rows: &[Read<'_>],
+    written: &[Written<'_>],
 ) {
     reads::<T>(rt, alloc, rows);
     rewrites::<T>(rt, alloc, written);
 }
 
-/// Takes the values of some rows, and writes those of others.
-pub fn takes_and_rewrites<'a, T: Encode + Decode<SliceSource<'a>> + Debug>(
+/// Does so with a type of octets that are lent.
+pub fn lends_and_rewrites<'a, T: Encode + Decode<SliceSource<'a>> + Debug>(
     rt: &impl Abort,
     alloc: Global,
     rows: &[Read<'a>],
     written: &[Written<'a>],
+) {
+    lends::<T>(rt, alloc, rows);
+    for (octets, mode, wanted) in written {
+        let value = done(rt, decode::<T, &'a [u8]>(alloc, Mode::Ber, octets));
+        writes(rt, alloc, &value, *mode, wanted);
+    }
+}
+
+/// Takes the values of some rows, and writes those of others.
+pub fn takes_and_rewrites<T: Encode + Decode<BytesSource> + Debug>(
+    rt: &impl Abort,
+    alloc: Global,
+    rows: &[Read<'_>],
+    written: &[Written<'_>],
 ) {
     takes::<T>(rt, alloc, rows);
     rewrites::<T>(rt, alloc, written);
@@ -172,13 +197,13 @@ pub fn writes<T: Encode>(rt: &impl Abort, alloc: Global, value: &T, mode: Mode, 
 }
 
 /// Reads the octets of each row in BER, and writes the value.
-pub fn rewrites<'a, T: Encode + Decode<SliceSource<'a>>>(
+pub fn rewrites<T: Encode + Decode<BytesSource>>(
     rt: &impl Abort,
     alloc: Global,
-    rows: &[Written<'a>],
+    rows: &[Written<'_>],
 ) {
     for (octets, mode, wanted) in rows {
-        let value = done(rt, decode::<T, &'a [u8]>(alloc, Mode::Ber, octets));
+        let value = value::<T>(rt, alloc, Mode::Ber, octets);
         writes(rt, alloc, &value, *mode, wanted);
     }
 }
@@ -190,8 +215,10 @@ pub fn value<T: Decode<BytesSource>>(
     mode: Mode,
     octets: &[u8],
 ) -> T {
-    let octets = done(rt, Bytes::copy_from_slice(alloc, octets));
-    done(rt, decode::<T, Bytes>(alloc, mode, octets))
+    done(
+        rt,
+        decode::<T, Bytes>(alloc, mode, shared(rt, alloc, octets)),
+    )
 }
 
 /// Reads the octets of each row, writes the value, and does so again with what `round_trip`
