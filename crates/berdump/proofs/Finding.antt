@@ -1,5 +1,6 @@
 -- The contents octets of a value that was sought.
-use Rattle.std.proofs.Common.{◌≡◌, ◌≢◌, ℕ, ◌+◌, ◌<◌, ◌≤◌, arith, append-nil, Bool, List, [], ◌∷◌, ◌++◌, Option, Some, None, length, take, drop, refl, sym, ap, subst, ◌∙◌, append_assoc}
+use Rattle.std.proofs.Common.{◌≡◌, ◌≢◌, ℕ, ◌+◌, ◌<◌, ◌≤◌, arith, append-nil, Bool, List, [], ◌∷◌}
+use Rattle.std.proofs.Common.{◌++◌, Option, Some, None, length, take, drop, refl, sym, ap, subst, ◌∙◌, append_assoc}
 use Rattle.std.proofs.Common.{take-append-drop, inl, inr, ◌⊎◌, IfSome, MatchOption}
 use Rattle.std.specs.Borrow.{Bor}
 use Rattle.std.proofs.lemmas.List.{length-take-le}
@@ -148,7 +149,8 @@ module _ (scope : Scope) (mode : Mode) (octets : List ℕ) (a b c : Option (List
   search_opens r p m t e k i q x = record {
     here = t.next;
     sought = inr (λ n. (let z : Some r ≡ None = sym x ∙ n in cc), omega (arith, k, q));
-    begun = subst (λ o. IfSome o (λ r. HasBegun scope mode octets wanted r.now)) (sym x) (found_indefinite scope mode octets a b es w at wanted r.now s.here e i);
+    begun = subst (λ o. IfSome o (λ r. HasBegun scope mode octets wanted r.now)) (sym x)
+        (found_indefinite scope mode octets a b es w at wanted r.now s.here e i);
   }
 
   pub search_ends : es ≡ [] → w ≡ [] → HasNone scope mode octets wanted

@@ -6,3 +6,4 @@ mod Holding
 mod Finding
 mod Running
 mod Asking
+mod Numbers

@@ -55,16 +55,18 @@ module _ (scope : Scope) (mode : Mode) (b c : Option (List ℕ)) (es : List Open
       ≡ drop n r → Written scope (h ∷ []) b c → PassesContents scope mode t contents behind (at + (length w - length r)) es fs v d → Meets scope mode es w at b fs v d c
   step_primitive fs contents behind v n d is_len is_form fits is_contents is_behind k (PassesContents.passed none e is_v is_d) octets a s =
       let size : length contents ≡ n = ap length is_contents ∙ length-take-le n r fits in
-      let here : Follows scope mode octets a c s.headings at es (drop n r) (at + (length w - length r) + n) = meets_primitive scope mode octets a b c es w r at t form len s f
-      open_here some n is_len is_form fits (λ z. subst (HoldsNone mode t) is_contents (none z)) (line k) in
-      subst (λ z. Follows scope mode octets a c s.headings at z v d) (sym e) (subst (λ z. Follows scope mode octets a c s.headings at es z d) (sym (is_v ∙ is_behind))
+      let here : Follows scope mode octets a c s.headings at es (drop n r) (at + (length w - length r) + n) =
+      meets_primitive scope mode octets a b c es w r at t form len s f open_here some n is_len is_form fits (λ z. subst (HoldsNone mode t) is_contents (none z)) (line k) in
+      subst (λ z. Follows scope mode octets a c s.headings at z v d) (sym e)
+      (subst (λ z. Follows scope mode octets a c s.headings at es z d) (sym (is_v ∙ is_behind))
       (subst (λ z. Follows scope mode octets a c s.headings at es (drop n r) z) (ap (λ m. at + (length w - length r) + m) (sym size) ∙ sym is_d) here))
   step_primitive fs contents behind v n d is_len is_form fits is_contents is_behind k (PassesContents.opened bor is_deep held is_bor e is_d) octets a s =
       let size : length contents ≡ n = ap length is_contents ∙ length-take-le n r fits in
       let here : Follows scope mode octets a c s.headings at (level.Definite bor ∷ es) v (at + (length w - length r) + (n - length v)) =
       meets_opened scope mode octets a b c es w r at t form len s f open_here some bor v n is_deep is_len is_form fits (is_bor ∙ is_behind)
       (subst (λ z. Holds mode t z v) is_contents held) (line k) in
-      subst (λ z. Follows scope mode octets a c s.headings at z v d) (sym e) (subst (λ z. Follows scope mode octets a c s.headings at (level.Definite bor ∷ es) v z)
+      subst (λ z. Follows scope mode octets a c s.headings at z v d) (sym e)
+      (subst (λ z. Follows scope mode octets a c s.headings at (level.Definite bor ∷ es) v z)
       (ap (λ m. at + (length w - length r) + (m - length v)) (sym size) ∙ sym is_d) here)
 
   pub stops_unwritten : (e : ListError) → IsUnwritten scope h b c e → Stops scope mode es w at b c e

@@ -142,7 +142,8 @@ module _ (scope : Scope) (mode : Mode) (octets : List ℕ) (a b c : Option (List
       headings = s.headings ++ (the_heading ∷ []);
       written = written_join scope s.headings (the_heading ∷ []) a b c s.written k;
       stand = stand_join scope mode octets s.headings (the_heading ∷ []) s.stand (stands, tt);
-      goes = λ hs m. subst (AreListed scope mode octets scope.from 0) (sym (append_assoc s.headings (the_heading ∷ []) hs)) (s.goes (the_heading ∷ hs) (g hs m));
+      goes = λ hs m. subst (AreListed scope mode octets scope.from 0) (sym (append_assoc s.headings (the_heading ∷ []) hs))
+          (s.goes (the_heading ∷ hs) (g hs m));
       fits = λ h. q (s.fits h);
       passed = s.passed ++ p;
       offset = (let o = s.offset in omega (arith, length-append s.passed p, o, l));
@@ -231,7 +232,8 @@ module _ (scope : Scope) (mode : Mode) (octets : List ℕ) (a b c : Option (List
   always_constructed true h = refl
   always_constructed false h = let a : false ≡ true = h.allowed in cc
 
-  pub meets_indefinite : len ≡ None → Written scope (the_heading ∷ []) b c → Follows scope mode octets a c s.headings at (level.Indefinite ∷ es) r (at + (length w - length r))
+  pub meets_indefinite : len ≡ None → Written scope (the_heading ∷ []) b c
+      → Follows scope mode octets a c s.headings at (level.Indefinite ∷ es) r (at + (length w - length r))
   meets_indefinite is_len k =
       let hl = header_length w f.header r f.are in
       let header : IsHeader mode t form (length_of None) f.header = subst (λ l. IsHeader mode t form l f.header) (ap length_of is_len) f.is_header in

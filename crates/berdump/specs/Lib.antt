@@ -7,3 +7,5 @@ pub mod Opened
 pub mod Walk
 pub mod Runs
 pub mod Asked
+pub mod Times
+pub mod Texts

@@ -29,8 +29,8 @@ abbrev pub left : List Open → List ℕ → ℕ
 left es w = length w + length (behind_all es) + length es
 
 -- a listing that met these headings has met one more, whose value stands at an offset
-pub record Follows (scope : Scope) (mode : Mode) (octets : List ℕ) (old new : Option (List ℕ)) (hs : List Heading) (at : ℕ) (es : List Open) (w : List ℕ)
-    (end : ℕ) : Type 0 where
+pub record Follows (scope : Scope) (mode : Mode) (octets : List ℕ) (old new : Option (List ℕ)) (hs : List Heading) (at : ℕ) (es : List Open)
+    (w : List ℕ) (end : ℕ) : Type 0 where
   pub next : IsAt scope mode octets old new es w end
   pub heading : Heading
   pub adds : next.headings ≡ hs ++ (heading ∷ [])

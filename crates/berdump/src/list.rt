@@ -4,7 +4,8 @@ ghost use Rattle.std.specs.Prelude.{List, [], ◌∷◌, ◌++◌, length, take,
 ghost use Rattle.std.specs.Borrow.{Bor};
 ghost use Rattle.std.specs.Prelude.{IfOk, OnOk, IfErr, IfSome, IfNone, MatchOption, string_bytes};
 ghost use Rattle.cli.specs.Shown.{IsShown};
-ghost use Rattle.berdump.specs.Answers.{HasContents, HasNone, IsUnlisted, IsUnwritten, Listed, Written};
+ghost use Rattle.berdump.specs.Answers.{HasContents, HasNone};
+ghost use Rattle.berdump.specs.Answers.{IsUnlisted, IsUnwritten, Listed, Written};
 ghost use Rattle.berdump.specs.declared.list.Reason.TheVariants.{Contents, TooLong};
 ghost use Rattle.berdump.specs.Lines.{IsLine};
 ghost use Rattle.berdump.specs.Opened.{GoesOn};

@@ -3,7 +3,8 @@ use Rattle.std.specs.Prelude.{◌≡◌, ◌⊎◌, ℕ, Bool, List, [], ◌∷�
 use Rattle.std.specs.List.{starts_with}
 use Rattle.std.specs.Str.Lines.{lines}
 use Rattle.names.specs.declared.table.Table.{Table}
-use Rattle.names.specs.declared.table.Table.TheVariants.{Attributes, Directory, Countries, Joint, Pkcs9, Rsa, UnitedStates, Members, Pkix, Enterprises, Internet, Organizations, Itu}
+use Rattle.names.specs.declared.table.Table.TheVariants.{Attributes, Directory, Countries, Joint, Pkcs9, Rsa, UnitedStates, Members}
+use Rattle.names.specs.declared.table.Table.TheVariants.{Pkix, Enterprises, Internet, Organizations, Itu}
 use Rattle.names.specs.Tables.{text_of}
 
 -- one of these is such

@@ -1,8 +1,10 @@
 -- The lines of each table.
 use Rattle.std.specs.Prelude.{ℕ, List}
 use Rattle.names.specs.declared.table.Table.{Table}
-use Rattle.names.specs.declared.table.Table.TheVariants.{Attributes, Directory, Countries, Joint, Pkcs9, Rsa, UnitedStates, Members, Pkix, Enterprises, Internet, Organizations, Itu}
-use Rattle.names.specs.declared.table.TheConstants.{ATTRIBUTES, DIRECTORY, COUNTRIES, JOINT, PKCS_9, RSA, UNITED_STATES, MEMBERS, PKIX, ENTERPRISES, INTERNET, ORGANIZATIONS, ITU}
+use Rattle.names.specs.declared.table.Table.TheVariants.{Attributes, Directory, Countries, Joint, Pkcs9, Rsa, UnitedStates, Members}
+use Rattle.names.specs.declared.table.Table.TheVariants.{Pkix, Enterprises, Internet, Organizations, Itu}
+use Rattle.names.specs.declared.table.TheConstants.{ATTRIBUTES, DIRECTORY, COUNTRIES, JOINT, PKCS_9, RSA, UNITED_STATES, MEMBERS}
+use Rattle.names.specs.declared.table.TheConstants.{PKIX, ENTERPRISES, INTERNET, ORGANIZATIONS, ITU}
 
 abbrev pub text_of : Table → List ℕ
 text_of Attributes = ATTRIBUTES.now

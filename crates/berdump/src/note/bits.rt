@@ -1,4 +1,7 @@
 //! Bit strings.
+ghost use Rattle.std.specs.Prelude.{◌≡◌, ◌↔◌, ◌-◌, ◌*◌, ◌/◌, ◌%◌, ◌^◌, ◌<◌, ◌≤◌, length, IsTrue};
+ghost use Rattle.std.specs.Prelude.{slice_index};
+
 use crate::note::{Manner, add_fault, fault, hexadecimal};
 use bcder::NoMemory;
 
@@ -6,15 +9,18 @@ use bcder::NoMemory;
 const FEW: usize = 2;
 
 /// Returns whether the bit with a number is one. The first bit is bit 0 (X.690, 8.6.2.1).
-fn is_one(octets: &[u8], number: usize) -> bool {
-    match octets.get(number / 8) {
-        Some(octet) => *octet & (0x80 >> (number % 8)) != 0,
-        None => false,
-    }
+fn is_one(octets: &[u8], number: usize) -> bool
+    requires { number < 8 * length octets.now }
+    ensures { IsTrue result
+        ↔ (slice_index octets.now (number / 8) / 2 ^ (7 - number % 8) % 2 ≡ 1) }
+{
+    (octets[number / 8] >> (7 - number % 8)) % 2 == 1
 }
 
 /// Appends the numbers of the bits that are one, if there are any.
-fn add_ones(text: &mut String, octets: &[u8], count: usize) -> Result<(), NoMemory> {
+fn add_ones(text: &mut String, octets: &[u8], count: usize) -> Result<(), NoMemory>
+    requires { count ≤ 8 * length octets.now }
+{
     let mut listed = false;
     for number in 0..count {
         if is_one(octets, number) {

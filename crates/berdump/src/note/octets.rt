@@ -1,4 +1,8 @@
 //! Octets whose meaning isn't known, and octet strings.
+ghost use Rattle.std.specs.Prelude.{◌≡◌, ◌≢◌, [], IfSome, IfNone};
+ghost use Rattle.std.specs.Str.{IsUtf8};
+ghost use Rattle.cli.specs.Shown.{IsShown};
+
 use crate::note::{Manner, add_fault, fault, hexadecimal};
 use bcder::NoMemory;
 use cli::shown::is_shown;
@@ -7,7 +11,11 @@ use cli::shown::is_shown;
 const FEW: usize = 4;
 
 /// Returns octets as a text, if they are one that a terminal shows as it is.
-fn text_in(octets: &[u8]) -> Option<&str> {
+fn text_in(octets: &[u8]) -> Option<&str>
+    ensures some { IfSome result
+        (λ text. (text.now ≡ octets.now) × IsShown text.now × (text.now ≢ [])) }
+    ensures none { IfNone result (IsUtf8 octets.now → IsShown octets.now → octets.now ≡ []) }
+{
     if octets.is_empty() {
         return None;
     }

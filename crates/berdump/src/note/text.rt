@@ -1,4 +1,7 @@
 //! Strings of characters.
+ghost use Rattle.std.specs.Prelude.{◌↔◌, IsTrue};
+ghost use Rattle.berdump.specs.Texts.{AreVisible};
+
 use crate::note::{Manner, add_fault, fault, hexadecimal};
 use bcder::{NoMemory, Tag};
 use cli::shown::Shown;
@@ -6,11 +9,15 @@ use encodings::text::{is_ia5_string, is_numeric_string, is_printable_string};
 
 /// Returns whether octets are the characters of a VisibleString: a space, and those that print
 /// (X.680, 41.1).
-fn is_visible(octets: &[u8]) -> bool {
-    for octet in octets {
-        if *octet < 0x20 || *octet > 0x7E {
+fn is_visible(octets: &[u8]) -> bool
+    ensures { IsTrue result ↔ AreVisible octets.now }
+{
+    let mut rest = octets;
+    while let [first, after @ ..] = rest {
+        if *first < 0x20 || *first > 0x7E {
             return false;
         }
+        rest = after;
     }
     true
 }

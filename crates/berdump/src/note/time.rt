@@ -1,5 +1,6 @@
 //! Times (X.680, 46 and 47; X.690, 11.7 and 11.8).
-ghost use Rattle.std.specs.Prelude.{◌≤◌, IfSome};
+ghost use Rattle.std.specs.Prelude.{◌≡◌, ℕ, ◌<◌, ◌≤◌, List, ◌++◌, IfSome, IfNone};
+ghost use Rattle.berdump.specs.Times.{two_digits, days_in};
 
 use crate::note::{Manner, add_fault, hexadecimal};
 use bcder::{Mode, NoMemory};
@@ -99,7 +100,9 @@ fn is_digit(octet: u8) -> bool {
 
 /// Returns the number that two digits are, if it is at most `most`, and the octets after them.
 fn two_digits(octets: &[u8], most: u8) -> Option<(u8, &[u8])>
-    ensures { IfSome result (λ r. r.0 ≤ most) }
+    ensures some { IfSome result (λ r. (octets.now ≡ two_digits r.0 ++ r.1.now) × (r.0 ≤ most)) }
+    ensures none { IfNone result ((number : ℕ) (rest : List ℕ) → number < 100 → number ≤ most
+        → octets.now ≡ two_digits number ++ rest → ⊥) }
 {
     let [tens, ones, rest @ ..] = octets else {
         return None;
@@ -127,7 +130,9 @@ fn part_in(octets: &[u8], most: u8) -> Option<(Option<u8>, &[u8])> {
 }
 
 /// Returns the number of days of a month.
-fn days_in(year: u16, month: u8) -> u8 {
+fn days_in(year: u16, month: u8) -> u8
+    ensures { result ≡ days_in year month }
+{
     match month {
         4 | 6 | 9 | 11 => 30,
         2 if year % 4 == 0 && (year % 100 != 0 || year % 400 == 0) => 29,
