@@ -8,7 +8,6 @@ use Rattle.cli.specs.declared.form.Form.{Form}
 use Rattle.cli.specs.Arguments.{IsForm, Reads, names_of, rules_option}
 use Rattle.bercheck.specs.declared.request.Asked.{Asked}
 use Rattle.bercheck.specs.declared.request.Asked.TheVariants as asked
-use Rattle.bercheck.specs.declared.request.Request.{Request}
 use Rattle.bercheck.specs.declared.request.Settings.{Settings}
 
 -- what was read of the arguments
