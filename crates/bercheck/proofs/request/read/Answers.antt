@@ -5,7 +5,8 @@ use Rattle.bercheck.proofs.Asking.{other_asked}
 use Rattle.bercheck.proofs.request.read.Goals as goal
 
 pub loop-argument-preserved : goal.loop-argument-preserved
-loop-argument-preserved c = λ s h. c.loop-argument.invariant s (Reads.more c.in-Some.argument c.in-Some.ensures.comes (rw c.in-Ok-None.field-0-is at c.in-Ok-None.ensures.does)
+loop-argument-preserved c = λ s h. c.loop-argument.invariant s
+    (Reads.more c.in-Some.argument c.in-Some.ensures.comes (rw c.in-Ok-None.field-0-is at c.in-Ok-None.ensures.does)
     (subst (λ b. Reads Does b (map string_bytes c.take.new.args.words.now) (read_of c.take.new.settings) s) c.in-Ok-None.ensures.same h))
 
 pub returns : goal.returns

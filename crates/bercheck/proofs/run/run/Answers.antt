@@ -9,7 +9,8 @@ returns-in-Ok-clause-goes g c = goes_kept (g.W.Write.contents c.args.out.now) (g
 pub returns-in-Err-clause-goes : goal.returns-in-Err-clause-goes
 returns-in-Err-clause-goes g c =
     let n = failed_told c.tell_unwritten.result c.tell_unwritten.ensures.failed in
-    goes_then (g.W.Write.contents c.args.out.now) (g.W.Write.contents c.run_inputs-status.new.out) (g.W.Write.contents c.flush.new.self) (g.E.Write.contents c.args.err.now)
+    goes_then (g.W.Write.contents c.args.out.now) (g.W.Write.contents c.run_inputs-status.new.out) (g.W.Write.contents c.flush.new.self)
+    (g.E.Write.contents c.args.err.now)
     (g.E.Write.contents c.run_inputs-status.new.err) (g.E.Write.contents c.tell_unwritten.new.err) c.run_inputs-status.result c.tell_unwritten.result
     c.run_inputs-status.ensures.goes (goes_told (g.W.Write.contents c.run_inputs-status.new.out) (g.W.Write.contents c.flush.new.self)
     (g.E.Write.contents c.run_inputs-status.new.err) (g.E.Write.contents c.tell_unwritten.new.err) c.tell_unwritten.result n

@@ -4,7 +4,8 @@ use Rattle.bercheck.proofs.Going.{failed_told, goes_alone, refused_told}
 use Rattle.bercheck.proofs.run.run_block.Goals as goal
 
 pub returns-in-Err-NoMemory-clause-goes : goal.returns-in-Err-NoMemory-clause-goes
-returns-in-Err-NoMemory-clause-goes g c = goes_alone (g.W.Write.contents c.args.out.now) (g.E.Write.contents c.args.err.now) (g.E.Write.contents c.tell_no_memory.new.err) c.tell_no_memory.result
+returns-in-Err-NoMemory-clause-goes g c = goes_alone (g.W.Write.contents c.args.out.now) (g.E.Write.contents c.args.err.now)
+    (g.E.Write.contents c.tell_no_memory.new.err) c.tell_no_memory.result
     (failed_told c.tell_no_memory.result c.tell_no_memory.ensures.failed) c.tell_no_memory.ensures.told
 
 pub returns-in-Err : goal.returns-in-Err

@@ -23,9 +23,11 @@ returns-in-Ok-None-clause-broken g c = λ z. IsInputBroken.one (c.has_blocks.ens
     (inr (rw c.in-Ok-None.field-0-is at c.in-Ok-None.ensures.itself, refl)) (c.run_octets-in-Ok-None.ensures.broken z)
 
 pub returns-in-Err-NoMemory-clause-goes : goal.returns-in-Err-NoMemory-clause-goes
-returns-in-Err-NoMemory-clause-goes g c = goes_alone (g.W.Write.contents c.args.out.now) (g.E.Write.contents c.args.err.now) (g.E.Write.contents c.tell_no_memory.new.err) c.tell_no_memory.result
+returns-in-Err-NoMemory-clause-goes g c = goes_alone (g.W.Write.contents c.args.out.now) (g.E.Write.contents c.args.err.now)
+    (g.E.Write.contents c.tell_no_memory.new.err) c.tell_no_memory.result
     (failed_told c.tell_no_memory.result c.tell_no_memory.ensures.failed) c.tell_no_memory.ensures.told
 
 pub returns-in-Err-Form-clause-goes : goal.returns-in-Err-Form-clause-goes
-returns-in-Err-Form-clause-goes g c = goes_alone (g.W.Write.contents c.args.out.now) (g.E.Write.contents c.args.err.now) (g.E.Write.contents c.refuse.new.err) c.refuse.result
+returns-in-Err-Form-clause-goes g c = goes_alone (g.W.Write.contents c.args.out.now) (g.E.Write.contents c.args.err.now)
+    (g.E.Write.contents c.refuse.new.err) c.refuse.result
     (refused_told c.refuse.result c.refuse.ensures.refused) c.refuse.ensures.told

@@ -27,9 +27,10 @@ returns-in-Ok-converted_alone g c =
     (subst (AppendsConversion c.args.request k.0 []) (sym c.deref-in-Ok-converted_alone.ensures.value) k.2) c.put-in-Ok-converted_alone.ensures
 
 pub returns-in-Err-converted_alone : goal.returns-in-Err-converted_alone
-returns-in-Err-converted_alone g c = Ends.refused (c.has_blocks.ensures.no c.if-has_blocks.false) c.in-Err-converted_alone.refusal c.in-Err-converted_alone.ensures.refused (record {
-  status = c.refuse-in-Err-converted_alone.ensures.status;
-  nothing = Keeps-refl (g.W.Write.contents c.args.out.now);
-  block = 0;
-  told = c.refuse-in-Err-converted_alone.ensures.told;
-})
+returns-in-Err-converted_alone g c = Ends.refused (c.has_blocks.ensures.no c.if-has_blocks.false) c.in-Err-converted_alone.refusal
+    c.in-Err-converted_alone.ensures.refused (record {
+      status = c.refuse-in-Err-converted_alone.ensures.status;
+      nothing = Keeps-refl (g.W.Write.contents c.args.out.now);
+      block = 0;
+      told = c.refuse-in-Err-converted_alone.ensures.told;
+    })
