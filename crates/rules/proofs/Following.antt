@@ -9,7 +9,7 @@ use Rattle.bcder.specs.declared.mode.Mode.{Mode}
 use Rattle.bcder.specs.declared.mode.Mode.TheVariants.{Ber}
 use Rattle.bcder.specs.x690.Encoding.{IsHeader, IsEncoding, AreEncodings}
 use Rattle.bcder.specs.x690.Identifier.{AreOctets, Tag}
-use Rattle.bcder.specs.x690.Tree.{Tree, primitive, constructed, Trees, no_trees, ◌∷ₜ◌}
+use Rattle.bcder.specs.x690.Tree.{◌+++◌, Tree, primitive, constructed, Trees, no_trees, ◌∷ₜ◌}
 use Rattle.bcder.specs.calls.ContentsLen.{length_of}
 use Rattle.bcder.specs.calls.Valued.{tag_of}
 use Rattle.bcder.specs.laws.Canonical.{one_spelling}
@@ -25,11 +25,21 @@ use Rattle.rules.specs.Around.{Adds, AddsBefore, AreAround, BreaksFit, Fits, Fol
 use Rattle.rules.specs.Around.{fits, misfits, whole, in_vain, element_outline, ended_outline, last_unused, met_meant, with_last}
 use Rattle.rules.specs.Around as around
 use Rattle.rules.specs.Begun.{BeginsValue, of_definite, of_indefinite}
-use Rattle.rules.specs.Broken.{Breaks, BreaksPlace, Holds}
+use Rattle.rules.specs.Broken.{Breaks, BreaksCharacters, BreaksPlace, Holds, characters, time_form}
+use Rattle.rules.specs.Characters.{HasCharacters}
+use Rattle.rules.specs.declared.kind.Kind.{Kind}
+use Rattle.rules.specs.declared.kind.Kind.TheVariants as k
+use Rattle.bcder.specs.x690.OctetString.{flat, segments, segments_of}
+use Rattle.std.specs.List.{concat}
+use Rattle.std.proofs.lemmas.List.Folds.{concat-append}
+use Rattle.std.proofs.lemmas.List.{take_at, drop_at}
+use Rattle.std.specs.Prelude.{take, drop, ◌||◌}
+use Rattle.rules.specs.Placed.{MayEndBehind, HasText}
+use Rattle.rules.specs.Around.{TellsText, spells, misspells, chosen, gathers_in, begun_value}
 use Rattle.rules.specs.Broken as broken
 use Rattle.rules.specs.Comes.{Comes}
 use Rattle.rules.specs.Passes.{IsMet, of_value, of_beginning, of_end}
-use Rattle.rules.specs.Kinds.{kind_of}
+use Rattle.rules.specs.Kinds.{is_string_kind, kind_of}
 use Rattle.rules.specs.Placed.{Frame, Outline, added, step, are_several, last_of, outline, unused_of_last, InOrder, MayCome, MayComeIn, MayEnd, IsPlaced}
 use Rattle.rules.specs.Placed.{HasSegmentTag, IsBehindWhole, IsCut}
 use Rattle.rules.specs.declared.around.Element.{Element}
@@ -136,6 +146,58 @@ not_come mode t last u rule (broken.other_tag g n) m = n m.tag
 not_come mode t last u rule (broken.behind_unused g n) m = n m.unused
 not_come mode t last u rule (broken.other_size g n) m = n m.cut
 
+-- ---- what is gathered
+
+or_true : (a b : Bool) → b ≡ true → (a || b) ≡ true
+or_true true b e = refl
+or_true false b e = e
+
+either_more : (r : Bool) (before gathered more text : List ℕ) → text ≡ before ++ gathered
+    → (chosen r (text ++ more) (text)) ≡ before ++ (chosen r (gathered ++ more) (gathered))
+either_more true before gathered more text e = ap (λ z. z ++ more) e ∙ append_assoc before gathered more
+either_more false before gathered more text e = e
+
+joined_more : (ts : Trees) (u : Tree) → concat (segments_of (ts +++ (u ∷ₜ no_trees))) ≡ concat (segments_of ts) ++ flat u
+joined_more no_trees u = ap concat (append-nil (segments u))
+joined_more (t ∷ₜ ts) u =
+    concat-append (segments t) (segments_of (ts +++ (u ∷ₜ no_trees))) ∙ ap (λ z. concat (segments t) ++ z) (joined_more ts u)
+    ∙ sym (append_assoc (concat (segments t)) (concat (segments_of ts)) (flat u)) ∙ ap (λ z. z ++ flat u) (sym (concat-append (segments t) (segments_of ts)))
+
+gathered_more : (r : Bool) (gathered more : List ℕ) (ts : Trees) (u : Tree) → r ≡ true → gathered ≡ concat (segments_of ts) → more ≡ flat u
+    → (chosen r (gathered ++ more) (gathered)) ≡ concat (segments_of (ts +++ (u ∷ₜ no_trees)))
+gathered_more true gathered more ts u q e m = ap (λ z. z ++ more) e ∙ ap (λ z. concat (segments_of ts) ++ z) m ∙ sym (joined_more ts u)
+gathered_more false gathered more ts u q e m = let z : ◌≡◌ {A = Bool} false true = q in absurd cc
+
+left_text : (outer own : Bool) (text before gathered more : List ℕ) (from : ℕ) → text ≡ before ++ gathered → from ≡ length before
+    → (outer ≡ true → own ≡ true) → (own ≡ true → gathered ≡ more)
+    → (chosen outer (text) (take from text)) ≡ (chosen outer (before ++ more) (before))
+left_text true own text before gathered more from e l i g = e ∙ ap (λ z. before ++ z) (g (i refl))
+left_text false own text before gathered more from e l i g = rw (l, e) (take_at before gathered (length before) refl)
+
+string_or_not : (kind : Kind) → (is_string_kind kind ≡ true) ⊎ ((mode : Mode) (z : List ℕ) → HasCharacters mode kind z)
+string_or_not k.Boolean = inr (λ _ _. tt)
+string_or_not k.Integer = inr (λ _ _. tt)
+string_or_not k.Real = inr (λ _ _. tt)
+string_or_not k.BitString = inl refl
+string_or_not k.OctetString = inl refl
+string_or_not k.Utf8String = inl refl
+string_or_not k.NumericString = inl refl
+string_or_not k.PrintableString = inl refl
+string_or_not k.Ia5String = inl refl
+string_or_not k.VisibleString = inl refl
+string_or_not k.UniversalString = inl refl
+string_or_not k.BmpString = inl refl
+string_or_not k.UtcTime = inl refl
+string_or_not k.GeneralizedTime = inl refl
+string_or_not k.Null = inr (λ _ _. tt)
+string_or_not k.Identifier = inr (λ _ _. tt)
+string_or_not k.Structure = inr (λ _ _. tt)
+string_or_not k.Other = inr (λ _ _. tt)
+
+not_spelled : (mode : Mode) (kind : Kind) (c : List ℕ) (rule : Rule) → BreaksCharacters mode kind c rule → HasCharacters mode kind c → ⊥
+not_spelled mode kind c rule (characters e n) h = n h
+not_spelled mode kind c rule (time_form e i m n) h = n h
+
 -- ---- one more value
 
 -- what was told of the place of a value, if it has one
@@ -144,9 +206,9 @@ pub data TellsPlace (mode : Mode) (contents : Bool) (octets : List ℕ) (P : Typ
   misplaced : (bs : List Breach) → new ≡ old ++ bs → 0 < length bs → All (Holds mode octets) bs → contents ≡ true → (P → ⊥)
       → TellsPlace mode contents octets P old new
 
-pub record Followed (mode : Mode) (contents : Bool) (octets : List ℕ) (es : List Enclosing) (fs : List Frame) (os : List Open) (y : List ℕ)
+pub record Followed (mode : Mode) (contents : Bool) (octets : List ℕ) (es : List Enclosing) (text : List ℕ) (fs : List Frame) (os : List Open) (y : List ℕ)
     (then : ℕ) (P : Type 0) (old new : List Breach) : Type 0 where
-  pub around : AreAround mode octets es fs os y then
+  pub around : AreAround mode octets es text fs os y then
   pub tells : TellsPlace mode contents octets P old new
 
 module _ (mode : Mode) (contents : Bool) (octets : List ℕ) where
@@ -155,8 +217,8 @@ module _ (mode : Mode) (contents : Bool) (octets : List ℕ) where
   begun x t h c (Some b) d is = of_definite h b d refl is refl
   begun x t h c None d is = of_indefinite h d refl (is ∙ ap (λ z. h ++ z) (append-nil c)) refl
 
-  module _ (es : List Enclosing) (f : Frame) (fs : List Frame) (os : List Open) (x a y : List ℕ) (at then : ℕ) (u : Tree) (e : Element)
-      (i : AreAround mode octets es (f ∷ fs) os x at) (is : x ≡ a ++ y) (d : IsEncoding mode u a) (pe : element_outline e ≡ outline u)
+  module _ (es : List Enclosing) (text : List ℕ) (f : Frame) (fs : List Frame) (os : List Open) (x a y : List ℕ) (at then : ℕ) (u : Tree) (e : Element)
+      (i : AreAround mode octets es text (f ∷ fs) os x at) (is : x ≡ a ++ y) (d : IsEncoding mode u a) (pe : element_outline e ≡ outline u)
       (oe : e.octets.now ≡ a) (n : then ≡ at + length a) where
     same : i.old ++ x ≡ (i.old ++ a) ++ y
     same = ap (λ z. i.old ++ z) is ∙ sym (append_assoc i.old a y)
@@ -164,8 +226,9 @@ module _ (mode : Mode) (contents : Bool) (octets : List ℕ) where
     de : IsEncoding mode u e.octets.now
     de = subst (IsEncoding mode u) (sym oe) d
 
-    inside : (gs : List Enclosing) → gs ≡ with_last e i.value ∷ i.values → AreAround mode octets gs (added u (f ∷ fs)) os y then
-    inside gs g = record {
+    inside : (gs : List Enclosing) (text' : List ℕ) → gs ≡ with_last e i.value ∷ i.values
+        → text' ≡ (chosen (gathers_in es) (text ++ flat u) (text)) → AreAround mode octets gs text' (added u (f ∷ fs)) os y then
+    inside gs text' g w = record {
       value = with_last e i.value;
       values = i.values;
       are = g;
@@ -185,6 +248,13 @@ module _ (mode : Mode) (contents : Bool) (octets : List ℕ) where
       from = i.from;
       comes = i.comes;
       place_at = omega (arith, n, i.place_at, length-append i.old a);
+      before = i.before;
+      gathered = chosen (i.value.gathers) (i.gathered ++ flat u) (i.gathered);
+      text_is = w ∙ ap (λ z. chosen (gathers_in z) (text ++ flat u) (text)) i.are ∙ either_more i.value.gathers i.before i.gathered (flat u) text i.text_is;
+      text_from = i.text_from;
+      gathers = i.gathers;
+      inherits = i.inherits;
+      gathered_is = λ q. gathered_more i.value.gathers i.gathered (flat u) f.trees u q (i.gathered_is q) refl;
       around = i.around;
     }
 
@@ -208,19 +278,20 @@ module _ (mode : Mode) (contents : Bool) (octets : List ℕ) where
         })) c (not_come mode f.tag (last_of f.trees) u rule no)
 
   -- a value was passed in the innermost open one
-  pub one_more : (es : List Enclosing) (fs : List Frame) (os : List Open) (x a y : List ℕ) (at then : ℕ) (u : Tree) (gs : List Enclosing)
-      (old new : List Breach) → AreAround mode octets es fs os x at → x ≡ a ++ y → IsEncoding mode u a → then ≡ at + length a
+  pub one_more : (es : List Enclosing) (text text' : List ℕ) (fs : List Frame) (os : List Open) (x a y : List ℕ) (at then : ℕ) (u : Tree) (gs : List Enclosing)
+      (old new : List Breach) → AreAround mode octets es text fs os x at
+      → text' ≡ (chosen (gathers_in es) (text ++ flat u) (text)) → x ≡ a ++ y → IsEncoding mode u a → then ≡ at + length a
       → AddsBefore mode contents es (outline u) x y then old gs new
-      → Followed mode contents octets gs (added u fs) os y then (MayComeIn mode fs u) old new
-  one_more es [] os x a y at then u gs old new i is d n h =
+      → Followed mode contents octets gs text' (added u fs) os y then (MayComeIn mode fs u) old new
+  one_more es text text' [] os x a y at then u gs old new i w is d n h =
       let e : Adds mode contents [] h.element then old gs new = subst (λ z. Adds mode contents z h.element then old gs new) i.0 h.adds in
       record { around = (e.0, i.1); tells = in_place e.1 (λ c. tt) }
-  one_more es (f ∷ fs) os x a y at then u gs old new i is d n h =
+  one_more es text text' (f ∷ fs) os x a y at then u gs old new i w is d n h =
       let e : Adds mode contents (i.value ∷ i.values) h.element then old gs new =
       subst (λ z. Adds mode contents z h.element then old gs new) i.are h.adds in
       record {
-        around = inside es f fs os x a y at then u h.element i is d h.outline_is (h.octets_are a is) n gs e.0;
-        tells = tells es f fs os x a y at then u h.element i is d h.outline_is (h.octets_are a is) n old new e.1;
+        around = inside es text f fs os x a y at then u h.element i is d h.outline_is (h.octets_are a is) n gs text' e.0 w;
+        tells = tells es text f fs os x a y at then u h.element i is d h.outline_is (h.octets_are a is) n old new e.1;
       }
 
   -- ---- steps
@@ -235,16 +306,16 @@ module _ (mode : Mode) (contents : Bool) (octets : List ℕ) where
       let no : ◌≡◌ {A = Bool} false true = must_be mode t false None refl d in
       absurd cc
 
-  abbrev opened_value : Tag → Bor (List ℕ) → Enclosing
-  opened_value t start = record { place = place t; sorts = is_set t; kind = kind_of t; start = start; several = false; last = None }
+  abbrev opened_value : Tag → Bor (List ℕ) → ℕ → Bool → Enclosing
+  opened_value t start from gathers = begun_value (place t) (is_set t) (kind_of t) start from gathers
 
-  beginning_passed : (es : List Enclosing) (fs : List Frame) (os : List Open) (x y : List ℕ) (t : Tag) (size : ℕ) (o : Open) (at then : ℕ)
-      (start : Bor (List ℕ)) (gs : List Enclosing) → AreAround mode octets es fs os x at → Comes octets os x at → BeginsValue mode x t true size y o
-      → then ≡ at + size → start.now ≡ x → gs ≡ opened_value t start ∷ es
-      → AreAround mode octets gs (record { tag = t; trees = no_trees } ∷ fs) (o ∷ os) y then
-  beginning_passed es fs os x y t size o at then start gs i k (of_definite h b d e is s) n w g =
+  beginning_passed : (es : List Enclosing) (text : List ℕ) (fs : List Frame) (os : List Open) (x y : List ℕ) (t : Tag) (size : ℕ) (o : Open) (at then : ℕ)
+      (start : Bor (List ℕ)) (gs : List Enclosing) → AreAround mode octets es text fs os x at → Comes octets os x at → BeginsValue mode x t true size y o
+      → then ≡ at + size → start.now ≡ x → gs ≡ opened_value t start (length text) (gathers_in es) ∷ es
+      → AreAround mode octets gs text (record { tag = t; trees = no_trees } ∷ fs) (o ∷ os) y then
+  beginning_passed es text fs os x y t size o at then start gs i k (of_definite h b d e is s) n w g =
       record {
-        value = opened_value t start;
+        value = opened_value t start (length text) (gathers_in es);
         values = es;
         are = g;
         ends_by = o;
@@ -263,11 +334,18 @@ module _ (mode : Mode) (contents : Bool) (octets : List ℕ) where
         from = at;
         comes = subst (λ z. Comes octets os z at) (sym w) k;
         place_at = omega (arith, n, s);
-        around = subst (λ z. AreAround mode octets es fs os z at) (sym w) i;
+        before = text;
+        gathered = [];
+        text_is = sym (append-nil text);
+        text_from = refl;
+        gathers = λ q. rw q refl;
+        inherits = λ q. or_true (is_string_kind (kind_of t)) (gathers_in es) q;
+        gathered_is = λ _. refl;
+        around = subst (λ z. AreAround mode octets es text fs os z at) (sym w) i;
       }
-  beginning_passed es fs os x y t size o at then start gs i k (of_indefinite h d e is s) n w g =
+  beginning_passed es text fs os x y t size o at then start gs i k (of_indefinite h d e is s) n w g =
       record {
-        value = opened_value t start;
+        value = opened_value t start (length text) (gathers_in es);
         values = es;
         are = g;
         ends_by = o;
@@ -286,7 +364,14 @@ module _ (mode : Mode) (contents : Bool) (octets : List ℕ) where
         from = at;
         comes = subst (λ z. Comes octets os z at) (sym w) k;
         place_at = omega (arith, n, s);
-        around = subst (λ z. AreAround mode octets es fs os z at) (sym w) i;
+        before = text;
+        gathered = [];
+        text_is = sym (append-nil text);
+        text_from = refl;
+        gathers = λ q. rw q refl;
+        inherits = λ q. or_true (is_string_kind (kind_of t)) (gathers_in es) q;
+        gathered_is = λ _. refl;
+        around = subst (λ z. AreAround mode octets es text fs os z at) (sym w) i;
       }
 
   -- the octets of a value that ended
@@ -348,6 +433,39 @@ module _ (mode : Mode) (contents : Bool) (octets : List ℕ) where
         at = omega (arith, w a is, n);
       })) t no
 
+  text_told : (f : Frame) (v : Enclosing) (opens : List Open) (text before gathered a y : List ℕ) (from then : ℕ) (old mid : List Breach)
+      → v.kind ≡ kind_of f.tag → text ≡ before ++ gathered → v.from ≡ length before
+      → (is_string_kind (kind_of f.tag) ≡ true → v.gathers ≡ true) → (v.gathers ≡ true → gathered ≡ concat (segments_of f.trees))
+      → Comes octets opens v.start.now from → IsEncoding mode (constructed f.tag f.trees) a → v.start.now ≡ a ++ y → then ≡ from + length a
+      → TellsText mode contents v text y then old mid → TellsPlace mode contents octets (HasText mode f.tag f.trees) old mid
+  text_told f v opens text before gathered a y from then old mid k w l g h c d is n t = go (string_or_not (kind_of f.tag)) t
+    where
+      part : drop v.from text ≡ gathered
+      part = rw (l, w) (drop_at before gathered (length before) refl)
+
+      joined : is_string_kind (kind_of f.tag) ≡ true → drop v.from text ≡ concat (segments_of f.trees)
+      joined q = part ∙ h (g q)
+
+      go : (is_string_kind (kind_of f.tag) ≡ true) ⊎ ((m : Mode) (z : List ℕ) → HasCharacters m (kind_of f.tag) z)
+          → TellsText mode contents v text y then old mid → TellsPlace mode contents octets (HasText mode f.tag f.trees) old mid
+      go (inr all) (spells q m) = in_place q (λ _. all mode _)
+      go (inr all) (misspells rule place q m b u) =
+          absurd (not_spelled mode v.kind (drop v.from text) rule b (subst (λ z. HasCharacters mode z (drop v.from text)) (sym k) (all mode _)))
+      go (inl s) (spells q m) =
+          in_place q (λ t. subst (HasCharacters mode (kind_of f.tag)) (joined s) (subst (λ z. HasCharacters mode z (drop v.from text)) k (m t)))
+      go (inl s) (misspells rule place q m b u) =
+          let e : BreaksCharacters mode (kind_of f.tag) (concat (segments_of f.trees)) rule =
+          subst (λ z. BreaksCharacters mode (kind_of f.tag) z rule) (joined s) (subst (λ z. BreaksCharacters mode z (drop v.from text) rule) k b) in
+          misplaced _ q (omega arith) (All-one (Holds mode octets) _ (record {
+            opened = opens;
+            rest = v.start.now;
+            from = from;
+            place = 0;
+            comes = c;
+            breaks = broken.in_text f.tag f.trees a y e d is refl;
+            at = omega (arith, u a is, n);
+          })) m (not_spelled mode (kind_of f.tag) (concat (segments_of f.trees)) rule e)
+
   both_told : (P Q : Type 0) (old mid new : List Breach) → TellsPlace mode contents octets P old mid → TellsPlace mode contents octets Q mid new
       → TellsPlace mode contents octets (P × Q) old new
   both_told P Q old mid new (in_place a f) (in_place b g) = in_place (b ∙ a) (λ c. (f c, g c))
@@ -357,55 +475,65 @@ module _ (mode : Mode) (contents : Bool) (octets : List ℕ) where
       misplaced (cs ++ bs) (o ∙ ap (λ z. z ++ bs) q ∙ append_assoc old cs bs) (omega (arith, l, length-append cs bs))
       (All-append (Holds mode octets) cs bs h j) c (λ w. n w.0)
 
-  end_passed : (es : List Enclosing) (f : Frame) (fs : List Frame) (os : List Open) (x : List ℕ) (at : ℕ) (ps : List Open) (y : List ℕ)
-      (then : ℕ) (o : Open) (n : ℕ) (start : Bor (List ℕ)) (gs : List Enclosing) (old new : List Breach) → AreAround mode octets es (f ∷ fs) os x at
-      → os ≡ o ∷ ps → Closes mode o x y n → then ≡ at + n → Follows mode contents es start m.End y then old gs new
-      → Followed mode contents octets gs (added (constructed f.tag f.trees) fs) ps y then
-      (MayEnd mode (kind_of f.tag) (are_several f.trees) × MayComeIn mode fs (constructed f.tag f.trees)) old new
-  end_passed es f fs os x at ps y then o n start gs old new i q c k h =
+  end_passed : (es : List Enclosing) (text text' : List ℕ) (f : Frame) (fs : List Frame) (os : List Open) (x : List ℕ) (at : ℕ) (ps : List Open) (y : List ℕ)
+      (then : ℕ) (o : Open) (n : ℕ) (start : Bor (List ℕ)) (s0 : List ℕ) (gs : List Enclosing) (old new : List Breach)
+      → AreAround mode octets es text (f ∷ fs) os x at
+      → os ≡ o ∷ ps → Closes mode o x y n → then ≡ at + n → Follows mode contents es text start s0 m.End y then old gs text' new
+      → Followed mode contents octets gs text' (added (constructed f.tag f.trees) fs) ps y then
+      (MayEndBehind mode f.tag f.trees × MayComeIn mode fs (constructed f.tag f.trees)) old new
+  end_passed es text text' f fs os x at ps y then o n start s0 gs old new i q c k h =
       let first : i.ends_by ≡ o = first_same _ _ _ _ (sym i.opened ∙ q) in
       let others : i.opens ≡ ps = others_same _ _ _ _ (sym i.opened ∙ q) in
       let d = subst (λ z. IsHeader mode f.tag true (length_of (open_length z (length (i.old ++ x)))) i.header) first i.is_header in
       let s = subst (λ z. i.value.start.now ≡ i.header ++ ((i.old ++ x) ++ behind_of z)) first i.start in
       let e = ended f.tag f.trees i.old i.header i.value.start.now o ps x y c.passed i.encode d s (c.step ps) in
-      let l : Leaves mode contents i.value i.values y then old gs new = subst (λ z. Follows mode contents z start m.End y then old gs new) i.are h in
+      let l : Leaves mode contents i.value i.values text y then old gs text' new =
+      subst (λ z. Follows mode contents z text start s0 m.End y then old gs text' new) i.are h in
       let u : Tree = constructed f.tag f.trees in
       let same : ended_outline i.value ≡ outline u = outline_same f i.value i.place_is i.last in
       let b : AddsBefore mode contents i.values (outline u) i.value.start.now y then l.mid gs new =
       subst (λ z. AddsBefore mode contents i.values z i.value.start.now y then l.mid gs new) same l.adds in
       let size : then ≡ i.from + length e.octets_are = omega (arith, k, i.place_at, e.size, c.size) in
-      let all = one_more i.values fs i.opens i.value.start.now e.octets_are y i.from then u gs l.mid new i.around e.is e.encode size b in
-      let told : TellsPlace mode contents octets (MayEnd mode (kind_of f.tag) (are_several f.trees)) old l.mid =
-      end_told f i.value i.opens e.octets_are y i.from then old l.mid i.kind_is i.several i.comes e.encode e.is size l.tells in
+      let w : text' ≡ (chosen (gathers_in i.values) (i.before ++ flat u) (i.before)) =
+      l.text_is ∙ left_text (gathers_in i.values) i.value.gathers text i.before i.gathered (flat u) i.value.from i.text_is i.text_from i.inherits i.gathered_is in
+      let all = one_more i.values i.before text' fs i.opens i.value.start.now e.octets_are y i.from then u gs l.mid new i.around w e.is e.encode size b in
+      let told : TellsPlace mode contents octets (MayEnd mode (kind_of f.tag) (are_several f.trees)) old l.first =
+      end_told f i.value i.opens e.octets_are y i.from then old l.first i.kind_is i.several i.comes e.encode e.is size l.tells in
+      let spelled : TellsPlace mode contents octets (HasText mode f.tag f.trees) l.first l.mid =
+      text_told f i.value i.opens text i.before i.gathered e.octets_are y i.from then l.first l.mid i.kind_is i.text_is i.text_from i.gathers i.gathered_is
+      i.comes e.encode e.is size l.spells in
       record {
-        around = subst (λ z. AreAround mode octets gs (added u fs) z y then) others all.around;
-        tells = both_told _ _ old l.mid new told all.tells;
+        around = subst (λ z. AreAround mode octets gs text' (added u fs) z y then) others all.around;
+        tells = both_told _ _ old l.mid new (both_told _ _ old l.first l.mid told spelled) all.tells;
       }
 
   -- what was met is followed
-  pub met_followed : (es : List Enclosing) (fs : List Frame) (os : List Open) (x : List ℕ) (at : ℕ) (ps : List Open) (y : List ℕ) (then : ℕ)
-      (p : Piece) (met : Met) (start : Bor (List ℕ)) (gs : List Enclosing) (old new : List Breach) → AreAround mode octets es fs os x at
-      → Comes octets os x at → IsMet mode os x at ps y then p met → start.now ≡ x → Follows mode contents es start met y then old gs new
-      → Followed mode contents octets gs (step fs p) ps y then (IsPlaced mode fs p) old new
-  met_followed es fs os x at ps y then p met start gs old new i k (of_value t size c pe me b o q n) w h =
+  pub met_followed : (es : List Enclosing) (text text' : List ℕ) (fs : List Frame) (os : List Open) (x : List ℕ) (at : ℕ) (ps : List Open) (y : List ℕ) (then : ℕ)
+      (p : Piece) (met : Met) (s : List ℕ) (start : Bor (List ℕ)) (gs : List Enclosing) (old new : List Breach) → AreAround mode octets es text fs os x at
+      → Comes octets os x at → IsMet mode os x at ps y then p met s → start.now ≡ x → Follows mode contents es text start s met y then old gs text' new
+      → Followed mode contents octets gs text' (step fs p) ps y then (IsPlaced mode fs p) old new
+  met_followed es text text' fs os x at ps y then p met s start gs old new i k (of_value t size c pe me b o se q n) w h =
       let a = primitive_passed x y t size c o b in
-      let f : AddsBefore mode contents es (outline (primitive t c)) start.now y then old gs new =
-      subst (λ z. Follows mode contents es start z y then old gs new) me h in
+      let f = subst (λ z. Follows mode contents es text start s z y then old gs text' new) me h in
       let g : AddsBefore mode contents es (outline (primitive t c)) x y then old gs new =
-      subst (λ z. AddsBefore mode contents es (outline (primitive t c)) z y then old gs new) w f in
-      let all = one_more es fs os x a.0 y at then (primitive t c) gs old new i a.1 a.2 (omega (arith, n, a.3)) g in
-      subst (λ z. Followed mode contents octets gs (step fs z) ps y then (IsPlaced mode fs z) old new) (sym pe)
-      (subst (λ z. Followed mode contents octets gs (added (primitive t c) fs) z y then (MayComeIn mode fs (primitive t c)) old new) (sym q) all)
-  met_followed es fs os x at ps y then p met start gs old new i k (of_beginning t size c pe me b q n) w h =
-      let f = subst (λ z. Follows mode contents es start z y then old gs new) me h in
-      let all : Followed mode contents octets gs (step fs (begins t)) (c ∷ os) y then (IsPlaced mode fs (begins t)) old new = record {
-        around = beginning_passed es fs os x y t size c at then start gs i k b n w f.0;
-        tells = in_place f.1 (λ _. tt);
+      subst (λ z. AddsBefore mode contents es (outline (primitive t c)) z y then old gs new) w f.0 in
+      let v : text' ≡ (chosen (gathers_in es) (text ++ flat (primitive t c)) (text)) =
+      f.1 ∙ ap (λ z. chosen (gathers_in es) (text ++ z) (text)) (se ∙ sym (append-nil c)) in
+      let all = one_more es text text' fs os x a.0 y at then (primitive t c) gs old new i v a.1 a.2 (omega (arith, n, a.3)) g in
+      subst (λ z. Followed mode contents octets gs text' (step fs z) ps y then (IsPlaced mode fs z) old new) (sym pe)
+      (subst (λ z. Followed mode contents octets gs text' (added (primitive t c) fs) z y then (MayComeIn mode fs (primitive t c)) old new) (sym q) all)
+  met_followed es text text' fs os x at ps y then p met s start gs old new i k (of_beginning t size c pe me b q n) w h =
+      let f = subst (λ z. Follows mode contents es text start s z y then old gs text' new) me h in
+      let all : Followed mode contents octets gs text' (step fs (begins t)) (c ∷ os) y then (IsPlaced mode fs (begins t)) old new = record {
+        around = subst (λ z. AreAround mode octets gs z (step fs (begins t)) (c ∷ os) y then) (sym f.1)
+            (beginning_passed es text fs os x y t size c at then start gs i k b n w f.0);
+        tells = in_place f.2 (λ _. tt);
       } in
-      subst (λ z. Followed mode contents octets gs (step fs z) ps y then (IsPlaced mode fs z) old new) (sym pe)
-      (subst (λ z. Followed mode contents octets gs (step fs (begins t)) z y then (IsPlaced mode fs (begins t)) old new) (sym q) all)
-  met_followed es [] os x at ps y then p met start gs old new i k (of_end c n pe me b q j) w h =
+      subst (λ z. Followed mode contents octets gs text' (step fs z) ps y then (IsPlaced mode fs z) old new) (sym pe)
+      (subst (λ z. Followed mode contents octets gs text' (step fs (begins t)) z y then (IsPlaced mode fs (begins t)) old new) (sym q) all)
+  met_followed es text text' [] os x at ps y then p met s start gs old new i k (of_end c n pe me b q j) w h =
       absurd (omega (arith, ap length (sym i.1 ∙ q)))
-  met_followed es (f ∷ fs) os x at ps y then p met start gs old new i k (of_end c n pe me b q j) w h =
-      subst (λ z. Followed mode contents octets gs (step (f ∷ fs) z) ps y then (IsPlaced mode (f ∷ fs) z) old new) (sym pe)
-      (end_passed es f fs os x at ps y then c n start gs old new i q b j (subst (λ z. Follows mode contents es start z y then old gs new) me h))
+  met_followed es text text' (f ∷ fs) os x at ps y then p met s start gs old new i k (of_end c n pe me b q j) w h =
+      subst (λ z. Followed mode contents octets gs text' (step (f ∷ fs) z) ps y then (IsPlaced mode (f ∷ fs) z) old new) (sym pe)
+      (end_passed es text text' f fs os x at ps y then c n start s gs old new i q b j
+      (subst (λ z. Follows mode contents es text start s z y then old gs text' new) me h))

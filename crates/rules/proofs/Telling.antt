@@ -80,9 +80,9 @@ module _ (mode : Mode) (contents : Bool) (t : Tag) (size : ℕ) (c : List ℕ) (
 
 value_judges : (mode : Mode) (contents : Bool) (x : List ℕ) (t : Tag) (f : Bool) (size : ℕ) (c : List ℕ) (o : Open) (os ps : List Open)
     (y : List ℕ) (at then : ℕ) (old new : List Breach) → AreOctets x → IsDue mode os x → BeginsValue mode x t f size c o
-    → Enters f size c o at os ps y then → Looks mode contents t f size c at old new → Judges mode contents os x at ps y then old new (met_meant t f c)
+    → Enters f size c o at os ps y then → Looks mode contents t f size c at old new → Judges mode contents os x at ps y then old new (met_meant t f c) c
 value_judges mode contents x t false size c o os ps y at then old new octets due b i l =
-    passes (value t c) (of_value t size c refl refl (subst (BeginsValue mode x t false size c) i.1 b) (octets_inside mode x t false size c o octets b) i.0 i.2)
+    passes (value t c) (of_value t size c refl refl (subst (BeginsValue mode x t false size c) i.1 b) (octets_inside mode x t false size c o octets b) refl i.0 i.2)
     (value_next mode os x t false c o y octets due (as_piece mode x t false size c o b) refl i.1
     ∙ ap (λ k. before_all (value t c ∷ []) (pieces_left mode k y)) (sym i.0)) (value_judged mode contents t size c at old new l)
 value_judges mode contents x t true size c o os ps y at then old new octets due b i l =
@@ -93,30 +93,31 @@ value_judges mode contents x t true size c o os ps y at then old new octets due 
 -- ---- one step
 
 pub value_passed : (mode : Mode) (contents : Bool) (x : List ℕ) (t : Tag) (f : Bool) (size : ℕ) (c : List ℕ) (o : Open) (os ps : List Open)
-    (y : List ℕ) (at then : ℕ) (old new : List Breach) (met : Met) → AreOctets x → IsDue mode os x → BeginsValue mode x t f size c o → met ≡ met_meant t f c
-    → PassesValue mode contents t f size c o os x at old ps y then new → Passes mode contents os x at old ps y then new met
-value_passed mode contents x t f size c o os ps y at then old new met octets due b e p = record {
+    (y : List ℕ) (at then : ℕ) (old new : List Breach) (met : Met) (d : List ℕ) → AreOctets x → IsDue mode os x → BeginsValue mode x t f size c o → met ≡ met_meant t f c → d ≡ c
+    → PassesValue mode contents t f size c o os x at old ps y then new → Passes mode contents os x at old ps y then new met d
+value_passed mode contents x t f size c o os ps y at then old new met d octets due b e q p = record {
   onward = p.onward;
   judges =
-      subst (Judges mode contents os x at ps y then old new) (sym e)
-      (value_judges mode contents x t f size c o os ps y at then old new octets due b p.enters p.looks);
+      subst (λ z. Judges mode contents os x at ps y then old new z d) (sym e)
+      (subst (Judges mode contents os x at ps y then old new (met_meant t f c)) (sym q)
+      (value_judges mode contents x t f size c o os ps y at then old new octets due b p.enters p.looks));
 }
 
-pub beyond_passed : (mode : Mode) (contents : Bool) (x : List ℕ) (os ps : List Open) (y : List ℕ) (at then : ℕ) (old new : List Breach)
-    → AreOctets x → IsDue mode os x → GoesBeyond mode x → PassesBroken mode os x at old ps y then new → Passes mode contents os x at old ps y then new Lost
-beyond_passed mode contents x os ps y at then old new octets due g p =
+pub beyond_passed : (mode : Mode) (contents : Bool) (x : List ℕ) (os ps : List Open) (y : List ℕ) (at then : ℕ) (old new : List Breach) (d : List ℕ)
+    → AreOctets x → IsDue mode os x → GoesBeyond mode x → PassesBroken mode os x at old ps y then new → Passes mode contents os x at old ps y then new Lost d
+beyond_passed mode contents x os ps y at then old new d octets due g p =
     let short : read_tree mode x ≡ None =
     too_short mode x g.tag g.form (Some g.len) g.header g.behind octets g.is_header g.is g.len refl g.more in
     record { onward = p.onward; judges = loses refl p.told (none_next mode os x octets due short) }
 
-pub broken_passed : (mode : Mode) (contents : Bool) (x : List ℕ) (os ps : List Open) (y : List ℕ) (at then : ℕ) (old new : List Breach)
-    → AreOctets x → IsDue mode os x → HasNoHeader mode x → PassesBroken mode os x at old ps y then new → Passes mode contents os x at old ps y then new Lost
-broken_passed mode contents x os ps y at then old new octets due n p =
+pub broken_passed : (mode : Mode) (contents : Bool) (x : List ℕ) (os ps : List Open) (y : List ℕ) (at then : ℕ) (old new : List Breach) (d : List ℕ)
+    → AreOctets x → IsDue mode os x → HasNoHeader mode x → PassesBroken mode os x at old ps y then new → Passes mode contents os x at old ps y then new Lost d
+broken_passed mode contents x os ps y at then old new d octets due n p =
     record { onward = p.onward; judges = loses refl p.told (none_next mode os x octets due (no_tree mode x octets n)) }
 
-pub end_passes : (mode : Mode) (contents : Bool) (qs : List Open) (o : Open) (os : List Open) (x y : List ℕ) (at n : ℕ) (old new : List Breach)
-    → AreOctets x → qs ≡ o ∷ os → Closes mode o x y n → new ≡ old → Passes mode contents qs x at old os y (at + n) new End
-end_passes mode contents qs o os x y at n old new octets q c e = record {
+pub end_passes : (mode : Mode) (contents : Bool) (qs : List Open) (o : Open) (os : List Open) (x y : List ℕ) (at n : ℕ) (old new : List Breach) (d : List ℕ)
+    → AreOctets x → qs ≡ o ∷ os → Closes mode o x y n → new ≡ old → Passes mode contents qs x at old os y (at + n) new End d
+end_passes mode contents qs o os x y at n old new d octets q c e = record {
   onward = record { goes = closes_goes mode qs o os x y at n q c; adds = adds_nothing mode qs x at old new e };
   judges = passes ends (of_end o n refl refl c q refl) (ap (λ k. pieces_left mode k x) q ∙ an_end_next mode o os x y n octets c) (kept e (λ k. tt));
 }

@@ -73,9 +73,9 @@ mutual
 
 -- ---- the walk
 
-pub walk_starts : (mode : Mode) (contents : Bool) (octets : List ℕ) (os : List Open) (es : List Enclosing) (whole : Bool) (at : ℕ) (found : List Breach)
-    → os ≡ [] → es ≡ [] → whole ≡ true → at ≡ 0 → found ≡ [] → InWalk mode contents octets os es whole octets at found
-walk_starts mode contents octets os es whole at found e a w n f =
+pub walk_starts : (mode : Mode) (contents : Bool) (octets : List ℕ) (os : List Open) (es : List Enclosing) (text : List ℕ) (whole : Bool) (at : ℕ) (found : List Breach)
+    → os ≡ [] → es ≡ [] → whole ≡ true → at ≡ 0 → found ≡ [] → InWalk mode contents octets os es text whole octets at found
+walk_starts mode contents octets os es text whole at found e a w n f =
     rw (e, n, f) (record {
       comes = at_first;
       hold = All-nil (Holds mode octets);
@@ -137,24 +137,24 @@ module _ (mode : Mode) (contents : Bool) (octets : List ℕ) where
   hold_on P mid new h (misplaced b q z k c n) =
       subst (All (Holds mode octets)) (sym q) (All-append (Holds mode octets) mid b h k)
 
-  hold_more : (os ps : List Open) (x y : List ℕ) (at then : ℕ) (old mid : List Breach) (met : Met) → Comes octets os x at → All (Holds mode octets) old
-      → Passes mode contents os x at old ps y then mid met → All (Holds mode octets) mid
-  hold_more os ps x y at then old mid met k h p =
+  hold_more : (os ps : List Open) (x y : List ℕ) (at then : ℕ) (old mid : List Breach) (met : Met) (d : List ℕ) → Comes octets os x at → All (Holds mode octets) old
+      → Passes mode contents os x at old ps y then mid met d → All (Holds mode octets) mid
+  hold_more os ps x y at then old mid met d k h p =
       let a = p.onward.adds in
       subst (All (Holds mode octets)) (sym a.is) (All-append (Holds mode octets) old a.more h (a.hold octets k))
 
-  not_lost : (os ps : List Open) (x y : List ℕ) (at then : ℕ) (q : Piece) (met : Met) → IsMet mode os x at ps y then q met → met ≡ Lost → ⊥
-  not_lost os ps x y at then q met (of_value t size c pe me b o e n) k = let z : met_meant t false c ≡ Lost = sym me ∙ k in absurd cc
-  not_lost os ps x y at then q met (of_beginning t size o pe me b e n) k = let z : met_meant t true y ≡ Lost = sym me ∙ k in absurd cc
-  not_lost os ps x y at then q met (of_end o n pe me c e j) k = let z : End ≡ Lost = sym me ∙ k in absurd cc
+  not_lost : (os ps : List Open) (x y : List ℕ) (at then : ℕ) (q : Piece) (met : Met) (d : List ℕ) → IsMet mode os x at ps y then q met d → met ≡ Lost → ⊥
+  not_lost os ps x y at then q met d (of_value t size c pe me b o se e n) k = let z : met_meant t false c ≡ Lost = sym me ∙ k in absurd cc
+  not_lost os ps x y at then q met d (of_beginning t size o pe me b e n) k = let z : met_meant t true y ≡ Lost = sym me ∙ k in absurd cc
+  not_lost os ps x y at then q met d (of_end o n pe me c e j) k = let z : End ≡ Lost = sym me ∙ k in absurd cc
 
   -- a value was lost, now or before
-  pub walk_lost : (os ps : List Open) (es : List Enclosing) (x y : List ℕ) (at then : ℕ) (old mid : List Breach) (met : Met) (whole : Bool)
-      → InWalk mode contents octets os es whole x at old → Passes mode contents os x at old ps y then mid met → (whole ≡ true → met ≡ Lost)
-      → InWalk mode contents octets ps es false y then mid
-  walk_lost os ps es x y at then old mid met whole i p l = record {
+  pub walk_lost : (os ps : List Open) (es : List Enclosing) (text x y : List ℕ) (at then : ℕ) (old mid : List Breach) (met : Met) (d : List ℕ) (whole : Bool)
+      → InWalk mode contents octets os es text whole x at old → Passes mode contents os x at old ps y then mid met d → (whole ≡ true → met ≡ Lost)
+      → InWalk mode contents octets ps es text false y then mid
+  walk_lost os ps es text x y at then old mid met d whole i p l = record {
     comes = p.onward.goes.comes octets i.comes;
-    hold = hold_more os ps x y at then old mid met i.comes i.hold p;
+    hold = hold_more os ps x y at then old mid met d i.comes i.hold p;
     count = p.onward.goes.count ∙ i.count;
     followed = go i.followed p.judges;
   }
@@ -162,47 +162,48 @@ module _ (mode : Mode) (contents : Bool) (octets : List ℕ) where
       longer : length old ≤ length mid
       longer = let a = p.onward.adds in omega (arith, ap length a.is, length-append old a.more)
 
-      go : IsFollowed mode contents octets os es whole x at old → Judges mode contents os x at ps y then old mid met
-          → IsFollowed mode contents octets ps es false y then mid
+      go : IsFollowed mode contents octets os es text whole x at old → Judges mode contents os x at ps y then old mid met d
+          → IsFollowed mode contents octets ps es text false y then mid
       go (no_values w k n) j = no_values refl (omega (arith, k, longer)) n
       go (so_far w passed same around v) (loses k told none) = no_values refl (omega (arith, told)) (never passed os x same none)
-      go (so_far w passed same around v) (passes q m left j) = absurd (not_lost os ps x y at then q met m (l w))
+      go (so_far w passed same around v) (passes q m left j) = absurd (not_lost os ps x y at then q met d m (l w))
 
   -- a piece was passed and followed
-  pub walk_followed : (os ps : List Open) (es gs : List Enclosing) (x y : List ℕ) (at then : ℕ) (old mid new : List Breach) (met : Met) (whole : Bool)
-      (start : Bor (List ℕ)) → InWalk mode contents octets os es whole x at old → Passes mode contents os x at old ps y then mid met
-      → whole ≡ true → (met ≡ Lost → ⊥) → start.now ≡ x → Follows mode contents es start met y then mid gs new
-      → InWalk mode contents octets ps gs true y then new
-  walk_followed os ps es gs x y at then old mid new met whole start i p w l s f = go i.followed p.judges
+  pub walk_followed : (os ps : List Open) (es gs : List Enclosing) (text text' x y : List ℕ) (at then : ℕ) (old mid new : List Breach) (met : Met)
+      (d : List ℕ) (whole : Bool)
+      (start : Bor (List ℕ)) → InWalk mode contents octets os es text whole x at old → Passes mode contents os x at old ps y then mid met d
+      → whole ≡ true → (met ≡ Lost → ⊥) → start.now ≡ x → Follows mode contents es text start d met y then mid gs text' new
+      → InWalk mode contents octets ps gs text' true y then new
+  walk_followed os ps es gs text text' x y at then old mid new met d whole start i p w l s f = go i.followed p.judges
     where
       all : (passed : List Piece) → pieces_left mode [] octets ≡ before_all passed (pieces_left mode os x)
-          → AreAround mode octets es (open_behind [] passed) os x at → IsVerdict mode contents octets passed old → (q : Piece)
-          → IsMet mode os x at ps y then q met → pieces_left mode os x ≡ before_all (q ∷ []) (pieces_left mode ps y)
-          → IsJudged mode contents q old mid → InWalk mode contents octets ps gs true y then new
+          → AreAround mode octets es text (open_behind [] passed) os x at → IsVerdict mode contents octets passed old → (q : Piece)
+          → IsMet mode os x at ps y then q met d → pieces_left mode os x ≡ before_all (q ∷ []) (pieces_left mode ps y)
+          → IsJudged mode contents q old mid → InWalk mode contents octets ps gs text' true y then new
       all passed same around v q m left j =
-          let t = met_followed mode contents octets es (open_behind [] passed) os x at ps y then q met start gs mid new around i.comes m s f in
+          let t = met_followed mode contents octets es text text' (open_behind [] passed) os x at ps y then q met d start gs mid new around i.comes m s f in
           let r : pieces_left mode [] octets ≡ before_all (passed ++ q ∷ []) (pieces_left mode ps y) =
           same ∙ ap (before_all passed) left ∙ before_both passed (q ∷ []) (pieces_left mode ps y) in
           record {
             comes = p.onward.goes.comes octets i.comes;
             hold =
-                hold_on (IsPlaced mode (open_behind [] passed) q) mid new (hold_more os ps x y at then old mid met i.comes i.hold p) t.tells;
+                hold_on (IsPlaced mode (open_behind [] passed) q) mid new (hold_more os ps x y at then old mid met d i.comes i.hold p) t.tells;
             count = p.onward.goes.count ∙ i.count;
             followed =
                 so_far refl (passed ++ q ∷ []) r
-                (subst (λ z. AreAround mode octets gs z ps y then) (sym (behind_more [] passed q)) t.around)
+                (subst (λ z. AreAround mode octets gs text' z ps y then) (sym (behind_more [] passed q)) t.around)
                 (judged_on passed q (pieces_left mode ps y) old mid new r v p.onward.adds.more p.onward.adds.is j t.tells);
           }
 
-      go : IsFollowed mode contents octets os es whole x at old → Judges mode contents os x at ps y then old mid met
-          → InWalk mode contents octets ps gs true y then new
+      go : IsFollowed mode contents octets os es text whole x at old → Judges mode contents os x at ps y then old mid met d
+          → InWalk mode contents octets ps gs text' true y then new
       go (no_values z k n) j = let u : ◌≡◌ {A = Bool} true false = sym w ∙ z in absurd cc
       go (so_far z passed same around v) (loses k told none) = absurd (l k)
       go (so_far z passed same around v) (passes q m left j) = all passed same around v q m left j
 
-  pub walk_ends : (os : List Open) (es : List Enclosing) (whole : Bool) (x : List ℕ) (at : ℕ) (found : List Breach) → AreOctets octets → os ≡ [] → x ≡ []
-      → InWalk mode contents octets os es whole x at found → (found ≡ []) ↔ AreRight mode contents octets
-  walk_ends os es whole x at found o none nothing i = go i.followed
+  pub walk_ends : (os : List Open) (es : List Enclosing) (text : List ℕ) (whole : Bool) (x : List ℕ) (at : ℕ) (found : List Breach) → AreOctets octets → os ≡ [] → x ≡ []
+      → InWalk mode contents octets os es text whole x at found → (found ≡ []) ↔ AreRight mode contents octets
+  walk_ends os es text whole x at found o none nothing i = go i.followed
     where
       is_right : (passed : List Piece) → pieces_left mode [] octets ≡ before_all passed (pieces_left mode os x) → All (IsKept mode contents) passed
           → (contents ≡ true → ArePlaced mode [] passed) → AreRight mode contents octets
@@ -223,6 +224,6 @@ module _ (mode : Mode) (contents : Bool) (octets : List ℕ) where
       by_verdict passed same (right e kept_all placed) = (λ _. is_right passed same kept_all placed, λ _. e)
       by_verdict passed same (wrong l n) = (λ e. absurd (omega (arith, l, ap length e)), λ r. absurd (n r))
 
-      go : IsFollowed mode contents octets os es whole x at found → (found ≡ []) ↔ AreRight mode contents octets
+      go : IsFollowed mode contents octets os es text whole x at found → (found ≡ []) ↔ AreRight mode contents octets
       go (so_far w passed same around v) = by_verdict passed same v
       go (no_values w l n) = (λ e. absurd (omega (arith, l, ap length e)), λ r. absurd (n r))

@@ -14,8 +14,11 @@ use Rattle.encodings.specs.Next.{IsDue}
 use Rattle.encodings.specs.Open.{Open, GoesBeyond, HasNoHeader}
 use Rattle.rules.specs.Begun.{BeginsValue}
 use Rattle.rules.specs.Comes.{Comes}
+use Rattle.std.specs.List.{concat}
+use Rattle.bcder.specs.x690.OctetString.{segments_of}
 use Rattle.rules.specs.Kinds.{kind_of, IsString}
-use Rattle.rules.specs.Means.{HasCharacters, MayBeConstructed}
+use Rattle.rules.specs.Characters.{HasCharacters}
+use Rattle.rules.specs.Means.{MayBeConstructed}
 use Rattle.rules.specs.Placed.{are_several, last_of, outline, InOrder, HasSegmentTag, IsBehindWhole, IsCut, MayEnd}
 use Rattle.rules.specs.Reals.{IsReal, IsStrictReal}
 use Rattle.rules.specs.declared.kind.Kind.{Kind}
@@ -39,6 +42,11 @@ pub record IsPadded (c : List ℕ) (place : ℕ) : Type 0 where
 -- a kind of times
 abbrev pub IsTime : Kind → Type 0
 IsTime kind = (kind ≡ k.UtcTime) ⊎ (kind ≡ k.GeneralizedTime)
+
+-- octets aren't characters of the type of a kind, by a rule
+pub data BreaksCharacters (mode : Mode) (kind : Kind) (c : List ℕ) (rule : Rule) : Type 0 where
+  characters : rule ≡ r.Characters kind → (HasCharacters mode kind c → ⊥) → BreaksCharacters mode kind c rule
+  time_form : rule ≡ r.TimeForm kind → IsTime kind → mode ≢ Ber → (HasCharacters mode kind c → ⊥) → BreaksCharacters mode kind c rule
 
 -- the contents octets c of a primitive value of a kind break a rule at this octet
 abbrev pub BreaksContents : Mode → Kind → List ℕ → Rule → ℕ → Type 0
@@ -108,6 +116,8 @@ pub data Breaks (mode : Mode) (os : List Open) (x : List ℕ) (rule : Rule) (pla
       → BreaksPlace mode t (last_of us) v rule → place ≡ size + length front → Breaks mode os x rule place
   cut_in_vain : (t : Tag) (us : Trees) (w z : List ℕ) → rule ≡ r.SegmentSize → IsEncoding mode (constructed t us) w → x ≡ w ++ z
       → (MayEnd mode (kind_of t) (are_several us) → ⊥) → place ≡ 0 → Breaks mode os x rule place
+  in_text : (t : Tag) (us : Trees) (w z : List ℕ) → BreaksCharacters mode (kind_of t) (concat (segments_of us)) rule
+      → IsEncoding mode (constructed t us) w → x ≡ w ++ z → place ≡ 0 → Breaks mode os x rule place
   in_value : (t : Tag) (form : Bool) (size : ℕ) (c : List ℕ) (behind : Open) → BeginsValue Ber x t form size c behind
       → BreaksValue mode t form size c rule place → Breaks mode os x rule place
 

@@ -1,4 +1,12 @@
--- Characters of types that encodings has no test for (ITU-T X.690, 8.23; X.680, 41).
+-- The characters of strings, and times (ITU-T X.690, 8.23, 8.25, 11.7, 11.8; X.680, 41).
+use Rattle.bcder.specs.declared.mode.Mode.{Mode}
+use Rattle.bcder.specs.declared.mode.Mode.TheVariants.{Ber, Cer, Der}
+use Rattle.bcder.specs.x690.AsciiSets.{is_ia5, is_numeric, is_printable, one_octet_step}
+use Rattle.bcder.specs.x690.CharSet.{IsOfSet}
+use Rattle.bcder.specs.x690.Utf8.{utf8_step}
+use Rattle.rules.specs.Times.{IsGeneralizedTime, IsGeneralizedTimeInBer, IsUtcTime, IsUtcTimeInBer}
+use Rattle.rules.specs.declared.kind.Kind.{Kind}
+use Rattle.rules.specs.declared.kind.Kind.TheVariants as k
 use Rattle.std.specs.Prelude.{◌⊎◌, ℕ, ◌+◌, ◌*◌, ◌<◌, ◌≤◌, ⊤, List, [], ◌∷◌, length, slice_index}
 
 -- 8.23.5: the octets are SPACE and the graphic characters of ISO/IEC 646
@@ -26,3 +34,28 @@ AreCodePoints (a ∷ []) = ⊥
 AreCodePoints (a ∷ b ∷ []) = ⊥
 AreCodePoints (a ∷ b ∷ c ∷ []) = ⊥
 AreCodePoints (a ∷ b ∷ c ∷ d ∷ w) = IsCodePoint (((a * 256 + b) * 256 + c) * 256 + d) × AreCodePoints w
+
+-- 8.25, 11.8: UTCTime
+abbrev pub IsUtcTimeIn : Mode → List ℕ → Type 0
+IsUtcTimeIn Ber c = IsUtcTimeInBer c
+IsUtcTimeIn Cer c = IsUtcTime c
+IsUtcTimeIn Der c = IsUtcTime c
+
+-- 8.25, 11.7: GeneralizedTime
+abbrev pub IsGeneralizedTimeIn : Mode → List ℕ → Type 0
+IsGeneralizedTimeIn Ber c = IsGeneralizedTimeInBer c
+IsGeneralizedTimeIn Cer c = IsGeneralizedTime c
+IsGeneralizedTimeIn Der c = IsGeneralizedTime c
+
+-- 8.23, 8.25: the octets are characters of the type of a kind, if it names any, and those of a time in one of its forms
+abbrev pub HasCharacters : Mode → Kind → List ℕ → Type 0
+HasCharacters mode k.Utf8String c = IsOfSet utf8_step c
+HasCharacters mode k.NumericString c = IsOfSet (one_octet_step is_numeric) c
+HasCharacters mode k.PrintableString c = IsOfSet (one_octet_step is_printable) c
+HasCharacters mode k.Ia5String c = IsOfSet (one_octet_step is_ia5) c
+HasCharacters mode k.VisibleString c = AreVisible c
+HasCharacters mode k.UniversalString c = AreCodePoints c
+HasCharacters mode k.BmpString c = AreCells c
+HasCharacters mode k.UtcTime c = IsUtcTimeIn mode c
+HasCharacters mode k.GeneralizedTime c = IsGeneralizedTimeIn mode c
+HasCharacters mode kind c = ⊤

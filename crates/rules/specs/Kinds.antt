@@ -78,3 +78,24 @@ is_bits k.Null = false
 is_bits k.Identifier = false
 is_bits k.Structure = false
 is_bits k.Other = false
+
+-- a kind of strings, as a test
+abbrev pub is_string_kind : Kind → Bool
+is_string_kind k.Boolean = false
+is_string_kind k.Integer = false
+is_string_kind k.Real = false
+is_string_kind k.BitString = true
+is_string_kind k.OctetString = true
+is_string_kind k.Utf8String = true
+is_string_kind k.NumericString = true
+is_string_kind k.PrintableString = true
+is_string_kind k.Ia5String = true
+is_string_kind k.VisibleString = true
+is_string_kind k.UniversalString = true
+is_string_kind k.BmpString = true
+is_string_kind k.UtcTime = true
+is_string_kind k.GeneralizedTime = true
+is_string_kind k.Null = false
+is_string_kind k.Identifier = false
+is_string_kind k.Structure = false
+is_string_kind k.Other = false

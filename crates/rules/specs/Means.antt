@@ -3,55 +3,26 @@ use Rattle.std.specs.Prelude.{◌≡◌, ◌≢◌, ℕ, ℤ, Bool, true, false,
 use Rattle.bcder.specs.declared.mode.Mode.{Mode}
 use Rattle.bcder.specs.declared.mode.Mode.TheVariants.{Ber, Cer, Der}
 use Rattle.bcder.specs.calls.Readers.{IsTruth}
-use Rattle.bcder.specs.x690.AsciiSets.{is_ia5, is_numeric, is_printable, one_octet_step}
 use Rattle.bcder.specs.x690.BitString.{BitShape}
-use Rattle.bcder.specs.x690.CharSet.{IsOfSet}
 use Rattle.bcder.specs.x690.Encoding.{AreEncodings}
 use Rattle.bcder.specs.x690.Identifier.{Tag}
 use Rattle.bcder.specs.x690.Integer.{AreInteger}
 use Rattle.bcder.specs.x690.ObjectIdentifier.{IsComplete, IsMinimal}
 use Rattle.bcder.specs.x690.OctetString.{MayBeWhole}
-use Rattle.bcder.specs.x690.Utf8.{utf8_step}
 use Rattle.bcder.specs.x690.Tree.{Tree, primitive, constructed, Trees, no_trees, ◌∷ₜ◌}
 use Rattle.encodings.specs.Pieces.{Piece, value, begins, ends}
 use Rattle.rules.specs.Kinds.{kind_of}
 use Rattle.rules.specs.Placed.{AreInPlace}
-use Rattle.rules.specs.Characters.{AreCells, AreCodePoints, AreVisible}
+use Rattle.rules.specs.Characters.{HasCharacters}
 use Rattle.rules.specs.Reals.{IsReal, IsStrictReal}
-use Rattle.rules.specs.Times.{IsGeneralizedTime, IsGeneralizedTimeInBer, IsUtcTime, IsUtcTimeInBer}
 use Rattle.rules.specs.declared.kind.Kind.{Kind}
 use Rattle.rules.specs.declared.kind.Kind.TheVariants as k
-
--- 8.25, 11.8: UTCTime
-abbrev pub IsUtcTimeIn : Mode → List ℕ → Type 0
-IsUtcTimeIn Ber c = IsUtcTimeInBer c
-IsUtcTimeIn Cer c = IsUtcTime c
-IsUtcTimeIn Der c = IsUtcTime c
-
--- 8.25, 11.7: GeneralizedTime
-abbrev pub IsGeneralizedTimeIn : Mode → List ℕ → Type 0
-IsGeneralizedTimeIn Ber c = IsGeneralizedTimeInBer c
-IsGeneralizedTimeIn Cer c = IsGeneralizedTime c
-IsGeneralizedTimeIn Der c = IsGeneralizedTime c
 
 -- 8.5, 11.3: REAL
 abbrev pub IsRealIn : Mode → List ℕ → Type 0
 IsRealIn Ber c = IsReal c
 IsRealIn Cer c = IsStrictReal c
 IsRealIn Der c = IsStrictReal c
-
--- 8.23, 8.25: the octets are characters of the type of a kind, if it names any, and those of a time in one of its forms
-abbrev pub HasCharacters : Mode → Kind → List ℕ → Type 0
-HasCharacters mode k.Utf8String c = IsOfSet utf8_step c
-HasCharacters mode k.NumericString c = IsOfSet (one_octet_step is_numeric) c
-HasCharacters mode k.PrintableString c = IsOfSet (one_octet_step is_printable) c
-HasCharacters mode k.Ia5String c = IsOfSet (one_octet_step is_ia5) c
-HasCharacters mode k.VisibleString c = AreVisible c
-HasCharacters mode k.UniversalString c = AreCodePoints c
-HasCharacters mode k.BmpString c = AreCells c
-HasCharacters mode k.UtcTime c = IsUtcTimeIn mode c
-HasCharacters mode k.GeneralizedTime c = IsGeneralizedTimeIn mode c
-HasCharacters mode kind c = ⊤
 
 -- contents octets of a primitive value of a kind mean one
 abbrev pub MeansOne : Mode → Kind → List ℕ → Type 0

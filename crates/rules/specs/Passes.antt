@@ -76,12 +76,13 @@ abbrev pub IsKept : Mode → Bool → Piece → Type 0
 IsKept mode contents p = contents ≡ true → IsPieceMeant mode p
 
 -- a piece was passed, from the octets x inside the open values os to y inside ps, and what is told of it
-pub data IsMet (mode : Mode) (os : List Open) (x : List ℕ) (at : ℕ) (ps : List Open) (y : List ℕ) (then : ℕ) (p : Piece) (met : Met) : Type 0 where
+pub data IsMet (mode : Mode) (os : List Open) (x : List ℕ) (at : ℕ) (ps : List Open) (y : List ℕ) (then : ℕ) (p : Piece) (met : Met)
+    (contents : List ℕ) : Type 0 where
   of_value : (t : Tag) (size : ℕ) (c : List ℕ) → p ≡ value t c → met ≡ met_meant t false c → BeginsValue mode x t false size c (Some y)
-      → AreOctets c → ps ≡ os → then ≡ at + size + length c → IsMet mode os x at ps y then p met
+      → AreOctets c → contents ≡ c → ps ≡ os → then ≡ at + size + length c → IsMet mode os x at ps y then p met contents
   of_beginning : (t : Tag) (size : ℕ) (o : Open) → p ≡ begins t → met ≡ met_meant t true y → BeginsValue mode x t true size y o → ps ≡ o ∷ os
-      → then ≡ at + size → IsMet mode os x at ps y then p met
-  of_end : (o : Open) (n : ℕ) → p ≡ ends → met ≡ m.End → Closes mode o x y n → os ≡ o ∷ ps → then ≡ at + n → IsMet mode os x at ps y then p met
+      → then ≡ at + size → IsMet mode os x at ps y then p met contents
+  of_end : (o : Open) (n : ℕ) → p ≡ ends → met ≡ m.End → Closes mode o x y n → os ≡ o ∷ ps → then ≡ at + n → IsMet mode os x at ps y then p met contents
 
 -- a piece breaks no rule of contents octets, and nothing was added; or it does, and something was
 pub data IsJudged (mode : Mode) (contents : Bool) (p : Piece) (old new : List Breach) : Type 0 where
@@ -90,16 +91,16 @@ pub data IsJudged (mode : Mode) (contents : Bool) (p : Piece) (old new : List Br
 
 -- the next piece was passed; or the octets to come aren't the rest of values, and something was added
 pub data Judges (mode : Mode) (contents : Bool) (os : List Open) (x : List ℕ) (at : ℕ) (ps : List Open) (y : List ℕ) (then : ℕ)
-    (old new : List Breach) (met : Met) : Type 0 where
-  passes : (p : Piece) → IsMet mode os x at ps y then p met → pieces_left mode os x ≡ before_all (p ∷ []) (pieces_left mode ps y)
-      → IsJudged mode contents p old new → Judges mode contents os x at ps y then old new met
-  loses : met ≡ m.Lost → length old < length new → pieces_left mode os x ≡ None → Judges mode contents os x at ps y then old new met
+    (old new : List Breach) (met : Met) (octets : List ℕ) : Type 0 where
+  passes : (p : Piece) → IsMet mode os x at ps y then p met octets → pieces_left mode os x ≡ before_all (p ∷ []) (pieces_left mode ps y)
+      → IsJudged mode contents p old new → Judges mode contents os x at ps y then old new met octets
+  loses : met ≡ m.Lost → length old < length new → pieces_left mode os x ≡ None → Judges mode contents os x at ps y then old new met octets
 
 -- one step of the walk
 pub record Passes (mode : Mode) (contents : Bool) (os : List Open) (x : List ℕ) (at : ℕ) (old : List Breach) (ps : List Open) (y : List ℕ)
-    (then : ℕ) (new : List Breach) (met : Met) : Type 0 where
+    (then : ℕ) (new : List Breach) (met : Met) (octets : List ℕ) : Type 0 where
   pub onward : Onward mode os x at old ps y then new
-  pub judges : Judges mode contents os x at ps y then old new met
+  pub judges : Judges mode contents os x at ps y then old new met octets
 
 -- ---- the whole walk
 
@@ -110,17 +111,17 @@ pub data IsVerdict (mode : Mode) (contents : Bool) (octets : List ℕ) (passed :
   wrong : 0 < length found → (AreRight mode contents octets → ⊥) → IsVerdict mode contents octets passed found
 
 -- pieces were passed, and the values around what comes are known; or a rule of headers or of ends is broken
-pub data IsFollowed (mode : Mode) (contents : Bool) (octets : List ℕ) (os : List Open) (es : List Enclosing) (whole : Bool) (x : List ℕ)
+pub data IsFollowed (mode : Mode) (contents : Bool) (octets : List ℕ) (os : List Open) (es : List Enclosing) (text : List ℕ) (whole : Bool) (x : List ℕ)
     (at : ℕ) (found : List Breach) : Type 0 where
   so_far : whole ≡ true → (passed : List Piece) → pieces_left mode [] octets ≡ before_all passed (pieces_left mode os x)
-      → AreAround mode octets es (open_behind [] passed) os x at → IsVerdict mode contents octets passed found
-      → IsFollowed mode contents octets os es whole x at found
+      → AreAround mode octets es text (open_behind [] passed) os x at → IsVerdict mode contents octets passed found
+      → IsFollowed mode contents octets os es text whole x at found
   no_values : whole ≡ false → 0 < length found → (AreRight mode contents octets → ⊥)
-      → IsFollowed mode contents octets os es whole x at found
+      → IsFollowed mode contents octets os es text whole x at found
 
-pub record InWalk (mode : Mode) (contents : Bool) (octets : List ℕ) (os : List Open) (es : List Enclosing) (whole : Bool) (x : List ℕ) (at : ℕ)
+pub record InWalk (mode : Mode) (contents : Bool) (octets : List ℕ) (os : List Open) (es : List Enclosing) (text : List ℕ) (whole : Bool) (x : List ℕ) (at : ℕ)
     (found : List Breach) : Type 0 where
   pub comes : Comes octets os x at
   pub hold : All (Holds mode octets) found
   pub count : at + length (to_come os x) ≡ length octets
-  pub followed : IsFollowed mode contents octets os es whole x at found
+  pub followed : IsFollowed mode contents octets os es text whole x at found

@@ -8,6 +8,9 @@ use Rattle.bcder.specs.x690.Tree.{Tree, primitive, constructed, Trees, no_trees,
 use Rattle.encodings.specs.Pieces.{Piece, value, begins, ends}
 use Rattle.bcder.specs.calls.Valued.{tag_of}
 use Rattle.encodings.specs.Sets.{is_set, place, MayPrecede}
+use Rattle.std.specs.List.{concat}
+use Rattle.bcder.specs.x690.OctetString.{segments_of}
+use Rattle.rules.specs.Characters.{HasCharacters}
 use Rattle.rules.specs.Kinds.{is_bits, kind_of, IsString}
 use Rattle.rules.specs.declared.kind.Kind.{Kind}
 
@@ -85,6 +88,14 @@ IsCut mode kind last v = mode ≡ Cer → IsString kind → IsSegmentSize kind v
 abbrev pub MayEnd : Mode → Kind → Bool → Type 0
 MayEnd mode kind several = mode ≡ Cer → IsString kind → several ≡ true
 
+-- the characters of a constructed string are those of its segments
+abbrev pub HasText : Mode → Tag → Trees → Type 0
+HasText mode t ts = HasCharacters mode (kind_of t) (concat (segments_of ts))
+
+-- a constructed value with this tag may end behind these
+abbrev pub MayEndBehind : Mode → Tag → Trees → Type 0
+MayEndBehind mode t ts = MayEnd mode (kind_of t) (are_several ts) × HasText mode t ts
+
 -- ---- all of it
 
 -- a value may come behind the last one inside a value with this tag
@@ -103,7 +114,7 @@ abbrev mutual
   -- each value inside the value may come behind the one before it, and the last may be the last
   pub IsInPlace : Mode → Tree → Type 0
   IsInPlace mode (primitive t c) = ⊤
-  IsInPlace mode (constructed t ts) = AreInPlace mode ts × MayComeEach mode t None ts × MayEnd mode (kind_of t) (are_several ts)
+  IsInPlace mode (constructed t ts) = AreInPlace mode ts × MayComeEach mode t None ts × MayEndBehind mode t ts
 
   pub AreInPlace : Mode → Trees → Type 0
   AreInPlace mode no_trees = ⊤
@@ -138,7 +149,7 @@ abbrev pub IsPlaced : Mode → List Frame → Piece → Type 0
 IsPlaced mode fs (value t c) = MayComeIn mode fs (primitive t c)
 IsPlaced mode fs (begins t) = ⊤
 IsPlaced mode [] ends = ⊤
-IsPlaced mode (f ∷ fs) ends = MayEnd mode (kind_of f.tag) (are_several f.trees) × MayComeIn mode fs (constructed f.tag f.trees)
+IsPlaced mode (f ∷ fs) ends = MayEndBehind mode f.tag f.trees × MayComeIn mode fs (constructed f.tag f.trees)
 
 abbrev pub ArePlaced : Mode → List Frame → List Piece → Type 0
 ArePlaced mode fs [] = ⊤

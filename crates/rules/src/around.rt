@@ -1,18 +1,21 @@
 //! The values around the octets to come: the order of the values inside each SET, and the segments of
 //! strings.
 ghost use Rattle.std.specs.Prelude.{◌≡◌, ◌≢◌, ◌↔◌, ◌++◌, [], List, ℕ, IsTrue, OnOk, IfSome, IfNone};
-ghost use Rattle.std.specs.Prelude.{option_map, reverse, slice_index};
+ghost use Rattle.std.specs.Prelude.{option_map, reverse, drop, slice_index, take};
 ghost use Rattle.bcder.specs.declared.mode.Mode.TheVariants.{Ber, Cer};
 ghost use Rattle.encodings.specs.Headings.{class_number};
 ghost use Rattle.encodings.specs.Sets.{IsNotAfter, is_set as is_set_meant, place};
 ghost use Rattle.rules.specs.Around.{Adds, BreaksFit, Fits, Follows, KeepsOrder, Leaves};
-ghost use Rattle.rules.specs.Around.{TellsEnd, TellsFit, element_outline};
+ghost use Rattle.rules.specs.Around.{TellsEnd, TellsFit, TellsText, element_outline};
+ghost use Rattle.rules.specs.Around.{chosen, gathers_in as gathers_meant};
 ghost use Rattle.rules.specs.Around.{last_unused as last_unused_meant, met_meant};
 ghost use Rattle.rules.specs.Kinds.{IsString, is_bits as is_bits_meant};
+ghost use Rattle.rules.specs.Kinds.{is_string_kind as is_string_meant};
 ghost use Rattle.rules.specs.Placed.{HasSegmentTag, IsBehindFull, IsBehindWhole, IsCut};
 ghost use Rattle.rules.specs.Placed.{IsSegmentSize, MayEnd};
 
 use crate::begun::Begun;
+use crate::judge::{characters_rule, has_characters};
 use crate::kind::{Kind, kind_of};
 use crate::rule::{Breach, Rule};
 use bcder::{Mode, NoMemory, Tag};
@@ -48,6 +51,12 @@ pub(crate) struct Enclosing<'a> {
 
     /// All octets from its first on.
     pub(crate) start: &'a [u8],
+
+    /// The number of octets that were gathered before it.
+    pub(crate) from: usize,
+
+    /// Whether the contents octets inside it are gathered: whether it is a string, or in one.
+    pub(crate) gathers: bool,
 
     /// Whether two values or more were passed in it.
     pub(crate) several: bool,
@@ -186,7 +195,8 @@ fn keeps_order(mode: Mode, sorts: bool, last: Option<Element<'_>>, next: Element
 
 /// Returns whether a kind is that of strings, of octets or of bits.
 fn is_string(kind: Kind) -> bool
-    ensures { IsTrue result ↔ IsString kind }
+    ensures kind { IsTrue result ↔ IsString kind }
+    ensures test { result ≡ is_string_meant kind }
 {
     match kind {
         Kind::BitString
@@ -375,6 +385,53 @@ fn tell_end(
     Ok(())
 }
 
+/// Returns the octets behind so many.
+fn behind(octets: &[u8], from: usize) -> &[u8]
+    ensures { result.now ≡ drop from octets.now }
+{
+    if from <= octets.len() {
+        octets.split_at(from).1
+    } else {
+        octets.split_at(octets.len()).1
+    }
+}
+
+/// Tells a string whose segments aren't characters of its type. The octets behind it are `rest`, the
+/// first of them at `at`.
+fn tell_text(
+    mode: Mode,
+    contents: bool,
+    value: &Enclosing<'_>,
+    text: &[u8],
+    rest: &[u8],
+    at: usize,
+    found: &mut Vec<Breach>,
+) -> Result<(), NoMemory>
+    ensures { OnOk result (TellsText mode contents value.now text.now rest.now at
+        found.old.items found.new.items) }
+{
+    let spelled = behind(text, value.from);
+    if !contents || has_characters(mode, value.kind, spelled) {
+        return Ok(());
+    }
+    let rule = characters_rule(mode, value.kind, spelled);
+    let at = at.saturating_sub(until(value.start, rest).len());
+    if found.push(Breach { at, rule }).is_err() {
+        return Err(NoMemory);
+    }
+    Ok(())
+}
+
+/// Returns whether the contents octets inside the innermost open value are gathered.
+fn gathers_in(around: &[Enclosing<'_>]) -> bool
+    ensures { result ≡ gathers_meant (reverse around.now) }
+{
+    match around {
+        [.., innermost] => innermost.gathers,
+        [] => false,
+    }
+}
+
 /// Passes a value inside the innermost open one, and tells it if it may not come there.
 fn add<'a>(
     mode: Mode,
@@ -398,6 +455,8 @@ fn add<'a>(
         sorts: innermost.sorts,
         kind: innermost.kind,
         start: innermost.start,
+        from: innermost.from,
+        gathers: innermost.gathers,
         several: innermost.last.is_some(),
         last: Some(element),
     };
@@ -417,22 +476,52 @@ fn last_unused(last: Option<Element<'_>>) -> u8
     }
 }
 
+/// Gathers the contents octets of a value inside strings.
+fn gather(gathers: bool, contents: &[u8], text: &mut Vec<u8>) -> Result<(), NoMemory>
+    ensures { OnOk result (text.new.items
+        ≡ chosen gathers (text.old.items ++ contents.now) text.old.items) }
+{
+    if !gathers {
+        return Ok(());
+    }
+    if text.extend_from_slice(contents).is_err() {
+        return Err(NoMemory);
+    }
+    Ok(())
+}
+
+/// Drops what was gathered of a value that isn't inside a string.
+fn ungather(gathers: bool, from: usize, text: &mut Vec<u8>)
+    ensures { text.new.items ≡ chosen gathers text.old.items (take from text.old.items) }
+{
+    if !gathers {
+        text.truncate(from);
+    }
+}
+
 /// Passes the end of a value, before the octets `rest`.
 fn leave<'a>(
     mode: Mode,
     contents: bool,
     around: &mut Vec<Enclosing<'a>>,
+    text: &mut Vec<u8>,
     value: Enclosing<'a>,
     rest: &'a [u8],
     at: usize,
     found: &mut Vec<Breach>,
 ) -> Result<(), NoMemory>
-    ensures { OnOk result (Leaves mode contents value.entry (reverse around.old.items) rest.now at
-        found.old.items (reverse around.new.items) found.new.items) }
+    ensures { OnOk result (Leaves mode contents value.entry (reverse around.old.items)
+        text.old.items rest.now at found.old.items (reverse around.new.items) text.new.items
+        found.new.items) }
 {
     let Ok(()) = tell_end(mode, contents, &value, rest, at, found) else {
         return Err(NoMemory);
     };
+    let Ok(()) = tell_text(mode, contents, &value, text, rest, at, found) else {
+        return Err(NoMemory);
+    };
+    let gathers = gathers_in(around);
+    ungather(gathers, value.from, text);
     let element = Element {
         place: value.place,
         size: None,
@@ -442,22 +531,29 @@ fn leave<'a>(
     add(mode, contents, around, element, at, found)
 }
 
-/// Follows a step of the walk from the octets `start` to `rest`, the first of which is at `at`.
+/// Follows a step of the walk from the octets `start` to `rest`, the first of which is at `at`. The
+/// contents octets of a primitive value are `octets`.
 pub(crate) fn follow<'a>(
     mode: Mode,
     contents: bool,
     around: &mut Vec<Enclosing<'a>>,
+    text: &mut Vec<u8>,
     start: &'a [u8],
+    octets: &'a [u8],
     met: Met,
     rest: &'a [u8],
     at: usize,
     found: &mut Vec<Breach>,
 ) -> Result<(), NoMemory>
-    ensures { OnOk result (Follows mode contents (reverse around.old.items) start.entry met
-        rest.entry.now at found.old.items (reverse around.new.items) found.new.items) }
+    ensures { OnOk result (Follows mode contents (reverse around.old.items) text.old.items
+        start.entry octets.now met rest.entry.now at found.old.items (reverse around.new.items)
+        text.new.items found.new.items) }
 {
     match met {
         Met::Value(place, size, unused) => {
+            let Ok(()) = gather(gathers_in(around), octets, text) else {
+                return Err(NoMemory);
+            };
             let element = Element {
                 place,
                 size: Some(size),
@@ -472,6 +568,8 @@ pub(crate) fn follow<'a>(
                 sorts,
                 kind,
                 start,
+                from: text.len(),
+                gathers: is_string(kind) || gathers_in(around),
                 several: false,
                 last: None,
             };
@@ -484,7 +582,7 @@ pub(crate) fn follow<'a>(
             let Some(value) = around.pop() else {
                 return Ok(());
             };
-            leave(mode, contents, around, value, rest, at, found)
+            leave(mode, contents, around, text, value, rest, at, found)
         }
         Met::Lost => Ok(()),
     }

@@ -4,11 +4,12 @@ ghost use Rattle.std.specs.Prelude.{ℕ, Bool, IfSome, IfNone, IsTrue, MatchOpti
 ghost use Rattle.bcder.specs.declared.mode.Mode.TheVariants.{Ber, Cer};
 ghost use Rattle.bcder.specs.calls.Readers.{IsTruth};
 ghost use Rattle.bcder.specs.x690.OctetString.{MayBeWhole};
-ghost use Rattle.rules.specs.Broken.{BreaksContents, BreaksForm, BreaksValue, IsPadded};
+ghost use Rattle.rules.specs.Broken.{BreaksCharacters, BreaksContents, BreaksForm};
+ghost use Rattle.rules.specs.Broken.{BreaksValue, IsPadded};
 ghost use Rattle.rules.specs.Kinds.{IsString};
 ghost use Rattle.rules.specs.declared.kind.Kind.TheVariants as k;
-ghost use Rattle.rules.specs.Means.{HasCharacters, IsGeneralizedTimeIn, IsMeantAlone};
-ghost use Rattle.rules.specs.Means.{IsUtcTimeIn};
+ghost use Rattle.rules.specs.Characters.{HasCharacters, IsGeneralizedTimeIn, IsUtcTimeIn};
+ghost use Rattle.rules.specs.Means.{IsMeantAlone};
 ghost use Rattle.rules.specs.Means.{MayBeConstructed, MeansOne};
 
 use crate::characters::{is_bmp_string, is_universal_string, is_visible_string};
@@ -198,9 +199,10 @@ fn real_broken(mode: Mode, contents: &[u8]) -> Option<Rule>
 }
 
 /// Returns the rule that octets break which aren't characters of the type of a kind.
-fn characters_rule(mode: Mode, kind: Kind, contents: &[u8]) -> Rule
+pub(crate) fn characters_rule(mode: Mode, kind: Kind, contents: &[u8]) -> Rule
     requires { HasCharacters mode kind contents.now → ⊥ }
-    ensures { BreaksContents mode kind contents.now result 0 }
+    ensures contents { BreaksContents mode kind contents.now result 0 }
+    ensures characters { BreaksCharacters mode kind contents.now result }
 {
     match kind {
         Kind::UtcTime | Kind::GeneralizedTime => {
@@ -216,7 +218,7 @@ fn characters_rule(mode: Mode, kind: Kind, contents: &[u8]) -> Rule
 
 /// Returns whether octets are characters of the type of a kind, if it names any, and those of a
 /// time in one of its forms.
-fn has_characters(mode: Mode, kind: Kind, contents: &[u8]) -> bool
+pub(crate) fn has_characters(mode: Mode, kind: Kind, contents: &[u8]) -> bool
     ensures { IsTrue result ↔ HasCharacters mode kind contents.now }
 {
     match kind {

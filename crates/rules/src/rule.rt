@@ -76,8 +76,8 @@ pub enum Rule {
     /// In CER, a primitive string has more than 1000 contents octets (9.2).
     StringTooLong,
 
-    /// The octets of a string aren't characters of its type (8.23), or, in BER, those of a time in
-    /// none of its forms (8.25).
+    /// The octets of a string, those of its segments one after the other, aren't characters of its
+    /// type (8.23), or, in BER, those of a time in none of its forms (8.25).
     Characters(Kind),
 
     /// In CER or DER, a time isn't in its one form (11.7, 11.8).

@@ -34,6 +34,9 @@ struct Stepped<'a> {
     rest: &'a [u8],
     at: usize,
     met: Met,
+
+    /// The contents octets, if it is a primitive value.
+    octets: &'a [u8],
 }
 
 /// Where the walk got to, and whether it lost no value: whether no rule of headers or ends was
@@ -335,7 +338,7 @@ fn pass_due<'a>(
     requires room { at + length (to_come (open_values opened.old.items) rest.now) < 2 ^ 64 }
     ensures { IfOk result (λ p. Passes mode contents
         (open_values opened.old.items) rest.now at found.old.items
-        (open_values opened.new.items) p.rest.now p.at found.new.items p.met) }
+        (open_values opened.new.items) p.rest.now p.at found.new.items p.met p.octets.now) }
 {
     match begin(mode, rest) {
         Front::Value(begun) => {
@@ -345,6 +348,7 @@ fn pass_due<'a>(
                     rest: place.rest,
                     at: place.at,
                     met,
+                    octets: begun.contents,
                 }),
                 Err(NoMemory) => Err(NoMemory),
             }
@@ -354,6 +358,7 @@ fn pass_due<'a>(
                 rest: place.rest,
                 at: place.at,
                 met: Met::Lost,
+                octets: rest,
             }),
             Err(NoMemory) => Err(NoMemory),
         },
@@ -362,6 +367,7 @@ fn pass_due<'a>(
                 rest: place.rest,
                 at: place.at,
                 met: Met::Lost,
+                octets: rest,
             }),
             Err(NoMemory) => Err(NoMemory),
         },
@@ -381,7 +387,7 @@ fn pass_next<'a>(
     requires room { at + length (to_come (open_values opened.old.items) rest.now) < 2 ^ 64 }
     ensures { IfOk result (λ p. Passes mode contents
         (open_values opened.old.items) rest.now at found.old.items
-        (open_values opened.new.items) p.rest.now p.at found.new.items p.met) }
+        (open_values opened.new.items) p.rest.now p.at found.new.items p.met p.octets.now) }
 {
     let Some(&innermost) = opened.last() else {
         return pass_due(mode, contents, opened, rest, at, found);
@@ -393,6 +399,7 @@ fn pass_next<'a>(
                 rest: behind,
                 at: at + size,
                 met: Met::End,
+                octets: rest,
             })
         }
         None => pass_due(mode, contents, opened, rest, at, found),
@@ -415,6 +422,7 @@ fn go_on<'a>(
     contents: bool,
     opened: &mut Vec<Option<&'a [u8]>>,
     around: &mut Vec<Enclosing<'a>>,
+    text: &mut Vec<u8>,
     place: Standing<'a>,
     found: &mut Vec<Breach>,
 ) -> Result<Standing<'a>, NoMemory>
@@ -427,9 +435,9 @@ fn go_on<'a>(
         + length (open_values opened.old.items)) }
     ensures walk { IfOk result (λ p. (octets : List ℕ)
         → InWalk mode contents octets (open_values opened.old.items) (reverse around.old.items)
-        place.entry.whole place.entry.rest.now place.entry.at found.old.items
+        text.old.items place.entry.whole place.entry.rest.now place.entry.at found.old.items
         → InWalk mode contents octets (open_values opened.new.items) (reverse around.new.items)
-        p.whole p.rest.now p.at found.new.items) }
+        text.new.items p.whole p.rest.now p.at found.new.items) }
 {
     let next = match pass_next(mode, contents, opened, place.rest, place.at, found) {
         Ok(next) => next,
@@ -443,7 +451,16 @@ fn go_on<'a>(
         });
     }
     let Ok(()) = follow(
-        mode, contents, around, place.rest, next.met, next.rest, next.at, found,
+        mode,
+        contents,
+        around,
+        text,
+        place.rest,
+        next.octets,
+        next.met,
+        next.rest,
+        next.at,
+        found,
     ) else {
         return Err(NoMemory);
     };
@@ -477,13 +494,22 @@ pub fn breaches(
     let mut found = Vec::new(alloc);
     let mut opened: Vec<Option<&[u8]>> = Vec::new(alloc);
     let mut around = Vec::new(alloc);
+    let mut text = Vec::new(alloc);
     let mut place = Standing {
         rest: octets,
         at: 0,
         whole: true,
     };
     while !opened.is_empty() || !place.rest.is_empty() {
-        match go_on(mode, contents, &mut opened, &mut around, place, &mut found) {
+        match go_on(
+            mode,
+            contents,
+            &mut opened,
+            &mut around,
+            &mut text,
+            place,
+            &mut found,
+        ) {
             Ok(next) => place = next,
             Err(NoMemory) => return Err(NoMemory),
         }

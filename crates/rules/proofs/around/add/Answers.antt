@@ -17,6 +17,8 @@ returns c =
       sorts = v.sorts;
       kind = v.kind;
       start = v.start;
+      from = v.from;
+      gathers = v.gathers;
       several = several;
       last = Some c.args.element;
     } in

@@ -16,4 +16,4 @@ returns-in-Some-close c =
     let o : AreOctets c.args.rest.now = λ i. omega (arith, c.type_inv.rest i) in
     let q : open_values c.args.opened.now.items ≡ option_map (λ s. s.now) c.in-Some.field-0.now ∷ open_values c.pop-ended.new.self.items =
     innermost c.args.opened.now.items c.pop-ended.new.self.items c.in-Some.field-0.now (search rules) (search rules) in
-    end_passes _ _ _ _ _ _ _ _ _ _ _ o q c.in-Some-close.ensures refl
+    end_passes _ _ _ _ _ _ _ _ _ _ _ _ o q c.in-Some-close.ensures refl
