@@ -1,5 +1,5 @@
 -- What may come where, by definitions of the crates below.
-use Rattle.std.proofs.Common.{◌≡◌, ◌≢◌, ◌⊎◌, ℕ, ◌+◌, ◌*◌, ◌<◌, ◌≤◌, Bool, true, false, List, [], ◌∷◌, length, Option, Some, None, refl, sym, ap, subst, ◌∙◌, arith, rules}
+use Rattle.std.proofs.Common.{◌≡◌, ◌≢◌, ℕ, ◌+◌, ◌*◌, ◌<◌, ◌≤◌, Bool, true, false, length, Option, Some, None, refl, sym, ap, subst, ◌∙◌, arith, rules}
 use Rattle.std.specs.Prelude.{◌↔◌, option_map, if◌then◌else◌}
 use Rattle.bcder.specs.declared.mode.Mode.{Mode}
 use Rattle.bcder.specs.declared.mode.Mode.TheVariants.{Ber, Cer, Der}
@@ -9,11 +9,11 @@ use Rattle.bcder.specs.x690.Tree.{Tree, primitive, constructed, Trees, no_trees,
 use Rattle.bcder.specs.calls.Valued.{tag_of}
 use Rattle.bcder.specs.laws.Sound.{none_is, some_inj}
 use Rattle.encodings.specs.Headings.{class_number}
-use Rattle.encodings.specs.Sets.{is_set, place, each, AreInOrder, MayPrecede, MayPrecedeFirst}
+use Rattle.encodings.specs.Sets.{is_set, place, each, AreInOrder, MayPrecedeFirst}
 use Rattle.rules.specs.Kinds.{is_bits, kind_of, IsString}
 use Rattle.rules.specs.Laws.{SetsAreInOrder, StringsAreSegmented}
 use Rattle.rules.specs.Means.{AreMeant, IsMeant}
-use Rattle.rules.specs.Placed.{are_several, outline, segment_place, size_of, AreInPlace, HasSegmentTag, InOrder, IsBehindWhole, IsCut, IsInPlace, MayCome}
+use Rattle.rules.specs.Placed.{are_several, outline, segment_place, size_of, AreInPlace, InOrder, IsBehindWhole, IsCut, IsInPlace, MayCome}
 use Rattle.rules.specs.Placed.{IsBehindFull, MayComeEach, MayEnd}
 use Rattle.rules.specs.declared.kind.Kind.{Kind}
 use Rattle.rules.specs.declared.kind.Kind.TheVariants as k

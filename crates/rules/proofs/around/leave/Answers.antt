@@ -1,4 +1,4 @@
-use Rattle.std.proofs.Common.{None, reverse, take, refl, ap, subst, ◌∙◌, rules}
+use Rattle.std.proofs.Common.{None, reverse, take, refl, ap, subst, ◌∙◌}
 use Rattle.std.proofs.lemmas.Result.{on_ok_weaker}
 use Rattle.rules.specs.Around.{chosen, gathers_in, TellsText}
 use Rattle.rules.proofs.around.leave.Goals as goal

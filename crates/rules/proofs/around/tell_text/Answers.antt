@@ -1,4 +1,4 @@
-use Rattle.std.proofs.Common.{◌≡◌, ◌++◌, ◌∷◌, ◌-◌, [], true, length, drop, ap, subst, arith, rules}
+use Rattle.std.proofs.Common.{◌≡◌, ◌++◌, ◌∷◌, ◌-◌, [], true, length, ap, subst, arith, rules}
 use Rattle.rules.specs.Around.{misspells}
 use Rattle.rules.specs.Broken.{BreaksCharacters}
 use Rattle.rules.proofs.around.tell_text.Goals as goal
