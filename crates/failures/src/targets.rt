@@ -21,6 +21,13 @@ use std::io::{Error, ErrorKind, Write};
 use std::process::Abort;
 use support::encoders::Zeros;
 
+/// Writes values. The functions that make them know no more of that than that it is done.
+fn put<V: Values, W: Write>(values: &V, mode: Mode, target: &mut W) -> Result<(), WriteError>
+    requires { V.can_encode values.now }
+{
+    values.write_encoded(mode, target)
+}
+
 /// How a target fails.
 #[derive(Clone, Copy)]
 enum Failure {

@@ -2,9 +2,10 @@
 #![tactic(auto, using(bcder::specs::laws::Listed::gives_one_list))]
 
 use super::lists::{Listed, write_listed};
+use super::put;
 use super::strings::{Text, write_text};
 use crate::asserts::done;
-use bcder::encode::{PrimitiveContent, Values, WriteError, write_header};
+use bcder::encode::{PrimitiveContent, WriteError, write_header};
 use bcder::{BitString, ConstOid, Integer, Mode, Oid, Tag, Unsigned};
 use bytes::Bytes;
 use std::alloc::Global;
@@ -75,10 +76,8 @@ fn write_as<P: PrimitiveContent + Drop, W: io::Write>(
     target: &mut W,
 ) -> Result<(), WriteError> {
     match how {
-        How::Value => content.encode().write_encoded(mode, target),
-        How::RefAs => content
-            .encode_ref_as(Tag::CTX_3)
-            .write_encoded(mode, target),
+        How::Value => put(&content.encode(), mode, target),
+        How::RefAs => put(&content.encode_ref_as(Tag::CTX_3), mode, target),
         How::Contents => content.write_encoded(mode, target),
     }
 }

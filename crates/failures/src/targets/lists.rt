@@ -1,6 +1,7 @@
 //! Encoders of lists of values, of constructed values, and of one of several values.
 #![tactic(auto, using(bcder::specs::laws::Listed::gives_one_list))]
 
+use super::put;
 use super::tuples::write_tuple;
 use crate::asserts::done;
 use bcder::captured::CapturedBuilder;
@@ -54,16 +55,16 @@ fn write_constructed<W: io::Write>(
 ) -> Result<(), WriteError> {
     let values = (true.encode(), 5u8.encode());
     match listed {
-        Listed::SequenceAs => sequence_as(Tag::CTX_3, values).write_encoded(mode, target),
-        Listed::Set => set(values).write_encoded(mode, target),
-        Listed::SetAs => set_as(Tag::CTX_3, values).write_encoded(mode, target),
-        Listed::Explicit => values.explicit(Tag::CTX_3).write_encoded(mode, target),
-        Listed::Constructed => Constructed::new(Tag::CTX_3, values).write_encoded(mode, target),
+        Listed::SequenceAs => put(&sequence_as(Tag::CTX_3, values), mode, target),
+        Listed::Set => put(&set(values), mode, target),
+        Listed::SetAs => put(&set_as(Tag::CTX_3, values), mode, target),
+        Listed::Explicit => put(&values.explicit(Tag::CTX_3), mode, target),
+        Listed::Constructed => put(&Constructed::new(Tag::CTX_3, values), mode, target),
         Listed::Deep => {
             let deep = sequence((set(Nothing), sequence(sequence(values))));
-            deep.write_encoded(mode, target)
+            put(&deep, mode, target)
         }
-        _ => sequence(values).write_encoded(mode, target),
+        _ => put(&sequence(values), mode, target),
     }
 }
 
@@ -79,13 +80,13 @@ fn write_numbers<W: io::Write>(
     match listed {
         Listed::Vec => {
             let list = done(rt, encoders.to_vec(alloc));
-            list.write_encoded(mode, target)
+            put(&list, mode, target)
         }
-        Listed::Slice => encoders.as_slice().write_encoded(mode, target),
-        Listed::Mapped => slice(NUMBERS, |x: &u8| (*x).encode()).write_encoded(mode, target),
-        Listed::Iter => iter(encoders.iter()).write_encoded(mode, target),
-        Listed::IterInside => sequence(iter(encoders.iter())).write_encoded(mode, target),
-        _ => (&&encoders.as_slice()).write_encoded(mode, target),
+        Listed::Slice => put(&encoders.as_slice(), mode, target),
+        Listed::Mapped => put(&slice(NUMBERS, |x: &u8| (*x).encode()), mode, target),
+        Listed::Iter => put(&iter(encoders.iter()), mode, target),
+        Listed::IterInside => put(&sequence(iter(encoders.iter())), mode, target),
+        _ => put(&&encoders.as_slice(), mode, target),
     }
 }
 
@@ -102,17 +103,17 @@ fn write_choice<W: io::Write>(
     target: &mut W,
 ) -> Result<(), WriteError> {
     match listed {
-        Listed::Some => Some(5u8.encode()).write_encoded(mode, target),
-        Listed::None => None::<Primitive<u8>>.write_encoded(mode, target),
+        Listed::Some => put(&Some(5u8.encode()), mode, target),
+        Listed::None => put(&None::<Primitive<u8>>, mode, target),
         Listed::FirstOfTwo => {
             let choice: Either = Choice2::One(true.encode());
-            choice.write_encoded(mode, target)
+            put(&choice, mode, target)
         }
         Listed::SecondOfTwo => {
             let choice: Either = Choice2::Two(5u8.encode());
-            choice.write_encoded(mode, target)
+            put(&choice, mode, target)
         }
-        _ => Nothing.write_encoded(mode, target),
+        _ => put(&Nothing, mode, target),
     }
 }
 
@@ -127,7 +128,7 @@ fn write_one_of_three<W: io::Write>(
         Listed::SecondOfThree => Choice3::Two(5u8.encode()),
         _ => Choice3::Three(().encode()),
     };
-    choice.write_encoded(mode, target)
+    put(&choice, mode, target)
 }
 
 /// Captures an INTEGER and a NULL, in a mode.
@@ -149,13 +150,13 @@ fn write_captured<W: io::Write>(
     match listed {
         Listed::Captured => {
             let values = done(rt, (5u8.encode(), ().encode()).to_captured(alloc, mode));
-            values.write_encoded(mode, target)
+            put(&values, mode, target)
         }
         Listed::CapturedRef => {
             let values = kept(rt, alloc, mode);
-            sequence(&values).write_encoded(mode, target)
+            put(&sequence(&values), mode, target)
         }
-        _ => kept(rt, alloc, Mode::Der).write_encoded(mode, target),
+        _ => put(&kept(rt, alloc, Mode::Der), mode, target),
     }
 }
 

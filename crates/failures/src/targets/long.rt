@@ -1,7 +1,8 @@
 //! Strings of over 1000 octets, which CER writes in segments (X.690, 9.2).
+use super::put;
 use super::strings::cut;
 use crate::asserts::done;
-use bcder::encode::{PrimitiveContent, Values, WriteError};
+use bcder::encode::{PrimitiveContent, WriteError};
 use bcder::string::Utf8String;
 use bcder::{Mode, OctetString};
 use bytes::Bytes;
@@ -76,23 +77,21 @@ pub fn write_long<W: io::Write>(
     target: &mut W,
 ) -> Result<(), WriteError> {
     match long {
-        Long::Slice => OctetString::encode_slice(octets).write_encoded(mode, target),
+        Long::Slice => put(&OctetString::encode_slice(octets), mode, target),
         Long::Whole => {
             let string = OctetString::new(done(rt, Bytes::copy_from_slice(alloc, octets)));
-            string.encode().write_encoded(mode, target)
+            put(&string.encode(), mode, target)
         }
-        Long::Cut => in_two(rt, alloc, octets)
-            .encode()
-            .write_encoded(mode, target),
+        Long::Cut => put(&in_two(rt, alloc, octets).encode(), mode, target),
         Long::Characters => {
             let text = done(rt, str::from_utf8(octets));
             let string = done(rt, Utf8String::from_str(alloc, text));
-            string.encode().write_encoded(mode, target)
+            put(&string.encode(), mode, target)
         }
         Long::Wrapped => {
             let (_, value) = octets.split_at(octets.len().min(4));
             let encoder = OctetString::encode_wrapped(alloc, Mode::Der, value.encode());
-            encoder.write_encoded(mode, target)
+            put(&encoder, mode, target)
         }
     }
 }

@@ -1,7 +1,8 @@
 //! Encoders of strings.
+use super::put;
 use crate::asserts::done;
 use bcder::decode::SliceSource;
-use bcder::encode::{PrimitiveContent, Values, WriteError};
+use bcder::encode::{PrimitiveContent, WriteError};
 use bcder::string::Utf8String;
 use bcder::{BitString, Mode, OctetString, Tag};
 use bytes::Bytes;
@@ -56,19 +57,19 @@ fn write_octets<W: io::Write>(
     target: &mut W,
 ) -> Result<(), WriteError> {
     match text {
-        Text::Whole => whole(rt, alloc).encode().write_encoded(mode, target),
+        Text::Whole => put(&whole(rt, alloc).encode(), mode, target),
         Text::WholeAs => {
             let encoder = whole(rt, alloc).encode_as(Tag::CTX_3);
-            encoder.write_encoded(mode, target)
+            put(&encoder, mode, target)
         }
-        Text::Cut => cut(rt, alloc, CUT).encode().write_encoded(mode, target),
+        Text::Cut => put(&cut(rt, alloc, CUT).encode(), mode, target),
         Text::CutRef => {
             let string = cut(rt, alloc, CUT);
-            string.encode_ref().write_encoded(mode, target)
+            put(&string.encode_ref(), mode, target)
         }
         _ => {
             let string = cut(rt, alloc, CUT);
-            string.encode_ref_as(Tag::CTX_3).write_encoded(mode, target)
+            put(&string.encode_ref_as(Tag::CTX_3), mode, target)
         }
     }
 }
@@ -78,13 +79,21 @@ fn write_slice<W: io::Write>(text: Text, mode: Mode, target: &mut W) -> Result<(
     let bits = [0x0A, 0xFF];
     match text {
         Text::OctetsAs => {
-            OctetString::encode_slice_as(b"ab", Tag::CTX_3).write_encoded(mode, target)
+            put(
+                &OctetString::encode_slice_as(b"ab", Tag::CTX_3),
+                mode,
+                target,
+            )
         }
-        Text::Bits => BitString::encode_slice(bits, 4).write_encoded(mode, target),
+        Text::Bits => put(&BitString::encode_slice(bits, 4), mode, target),
         Text::BitsAs => {
-            BitString::encode_slice_as(bits, 4, Tag::CTX_3).write_encoded(mode, target)
+            put(
+                &BitString::encode_slice_as(bits, 4, Tag::CTX_3),
+                mode,
+                target,
+            )
         }
-        _ => OctetString::encode_slice(b"ab").write_encoded(mode, target),
+        _ => put(&OctetString::encode_slice(b"ab"), mode, target),
     }
 }
 
@@ -98,10 +107,10 @@ fn write_characters<W: io::Write>(
 ) -> Result<(), WriteError> {
     let string = done(rt, Utf8String::from_str(alloc, "aé"));
     match text {
-        Text::CharactersAs => string.encode_as(Tag::CTX_3).write_encoded(mode, target),
-        Text::CharactersRef => string.encode_ref().write_encoded(mode, target),
-        Text::CharactersRefAs => string.encode_ref_as(Tag::CTX_3).write_encoded(mode, target),
-        _ => string.encode().write_encoded(mode, target),
+        Text::CharactersAs => put(&string.encode_as(Tag::CTX_3), mode, target),
+        Text::CharactersRef => put(&string.encode_ref(), mode, target),
+        Text::CharactersRefAs => put(&string.encode_ref_as(Tag::CTX_3), mode, target),
+        _ => put(&string.encode(), mode, target),
     }
 }
 
@@ -122,11 +131,15 @@ pub fn write_text<W: io::Write>(
         }
         Text::Wrapped => {
             let encoder = OctetString::encode_wrapped(alloc, Mode::Der, true.encode());
-            encoder.write_encoded(mode, target)
+            put(&encoder, mode, target)
         }
         Text::WrappedRef => {
             let value = true.encode();
-            OctetString::encode_wrapped(alloc, Mode::Der, &value).write_encoded(mode, target)
+            put(
+                &OctetString::encode_wrapped(alloc, Mode::Der, &value),
+                mode,
+                target,
+            )
         }
         _ => write_characters(rt, alloc, text, mode, target),
     }

@@ -1,6 +1,7 @@
 //! Encoders of tuples of each size.
+use super::put;
 use bcder::Mode;
-use bcder::encode::{Primitive, PrimitiveContent, Values, WriteError};
+use bcder::encode::{Primitive, PrimitiveContent, WriteError};
 use std::io;
 
 /// Returns an encoder of the INTEGER with this number.
@@ -11,23 +12,27 @@ fn n(number: u8) -> Primitive<u8> {
 /// Writes a tuple of one to six.
 fn write_small<W: io::Write>(count: usize, mode: Mode, target: &mut W) -> Result<(), WriteError> {
     match count {
-        1 => (n(1),).write_encoded(mode, target),
-        2 => (n(1), n(2)).write_encoded(mode, target),
-        3 => (n(1), n(2), n(3)).write_encoded(mode, target),
-        4 => (n(1), n(2), n(3), n(4)).write_encoded(mode, target),
-        5 => (n(1), n(2), n(3), n(4), n(5)).write_encoded(mode, target),
-        _ => (n(1), n(2), n(3), n(4), n(5), n(6)).write_encoded(mode, target),
+        1 => put(&(n(1),), mode, target),
+        2 => put(&(n(1), n(2)), mode, target),
+        3 => put(&(n(1), n(2), n(3)), mode, target),
+        4 => put(&(n(1), n(2), n(3), n(4)), mode, target),
+        5 => put(&(n(1), n(2), n(3), n(4), n(5)), mode, target),
+        _ => put(&(n(1), n(2), n(3), n(4), n(5), n(6)), mode, target),
     }
 }
 
 /// Writes a tuple of seven to nine.
 fn write_large<W: io::Write>(count: usize, mode: Mode, target: &mut W) -> Result<(), WriteError> {
     match count {
-        7 => (n(1), n(2), n(3), n(4), n(5), n(6), n(7)).write_encoded(mode, target),
-        8 => (n(1), n(2), n(3), n(4), n(5), n(6), n(7), n(8)).write_encoded(mode, target),
+        7 => put(&(n(1), n(2), n(3), n(4), n(5), n(6), n(7)), mode, target),
+        8 => put(
+            &(n(1), n(2), n(3), n(4), n(5), n(6), n(7), n(8)),
+            mode,
+            target,
+        ),
         _ => {
             let values = (n(1), n(2), n(3), n(4), n(5), n(6), n(7), n(8), n(9));
-            values.write_encoded(mode, target)
+            put(&values, mode, target)
         }
     }
 }
@@ -37,7 +42,7 @@ fn write_largest<W: io::Write>(count: usize, mode: Mode, target: &mut W) -> Resu
     match count {
         10 => {
             let values = (n(1), n(2), n(3), n(4), n(5), n(6), n(7), n(8), n(9), n(10));
-            values.write_encoded(mode, target)
+            put(&values, mode, target)
         }
         11 => {
             let values = (
@@ -53,7 +58,7 @@ fn write_largest<W: io::Write>(count: usize, mode: Mode, target: &mut W) -> Resu
                 n(10),
                 n(11),
             );
-            values.write_encoded(mode, target)
+            put(&values, mode, target)
         }
         _ => {
             let values = (
@@ -70,7 +75,7 @@ fn write_largest<W: io::Write>(count: usize, mode: Mode, target: &mut W) -> Resu
                 n(11),
                 n(12),
             );
-            values.write_encoded(mode, target)
+            put(&values, mode, target)
         }
     }
 }
