@@ -1,8 +1,10 @@
 //! The types of `extensions`. The octets are put together by hand, from X.690 and RFC 5280.
-use asn1::{Choice2, OrDefault, SequenceOf, decode, encode};
+use crate::calls::{is_written, read, read_in};
+use asn1::{Choice2, OrDefault, SequenceOf};
 use bcder::Mode;
 use extensions::{BasicConstraints, EcdsaSignature, Extensions, Time, Validity};
 use std::alloc::Global;
+use std::process::Abort;
 
 /// Whether it is an authority, and how many may follow it.
 type Constraints = (bool, Option<u32>);
@@ -28,18 +30,23 @@ const CONSTRAINTS: [(Mode, &[u8], Option<Constraints>); 5] = [
 ];
 
 /// Returns the constraints that octets are.
-fn constraints_of(alloc: Global, mode: Mode, octets: &[u8]) -> Option<Constraints> {
-    let Ok(constraints) = decode::<BasicConstraints, &[u8]>(alloc, mode, octets) else {
-        return None;
-    };
-    Some((constraints.ca.value, constraints.path_len))
+fn constraints_of(
+    rt: &impl Abort,
+    alloc: Global,
+    mode: Mode,
+    octets: &[u8],
+) -> Option<Constraints> {
+    match read_in::<BasicConstraints>(rt, alloc, mode, octets) {
+        Some(constraints) => Some((constraints.ca.value, constraints.path_len)),
+        None => None,
+    }
 }
 
 #[test]
 fn constraints_are_read(rt: HostRuntime) {
     for (mode, octets, wanted) in &CONSTRAINTS {
         assert_eq!(rt;
-            constraints_of(rt.alloc(), *mode, octets),
+            constraints_of(&rt, rt.alloc(), *mode, octets),
             *wanted,
             "{octets:?}"
         );
@@ -58,26 +65,18 @@ const WRITTEN: [(Constraints, Mode, &[u8]); 4] = [
     ),
 ];
 
-/// Returns whether constraints are written as these octets.
-fn is_written(alloc: Global, constraints: Constraints, mode: Mode, octets: &[u8]) -> bool {
-    let (ca, path_len) = constraints;
-    let value = BasicConstraints {
+/// Returns the constraints.
+fn constraints((ca, path_len): Constraints) -> BasicConstraints {
+    BasicConstraints {
         ca: OrDefault::new(ca),
         path_len,
-    };
-    match encode(alloc, mode, &value) {
-        Ok(written) => written.as_slice() == octets,
-        Err(_) => false,
     }
 }
 
 #[test]
 fn constraints_are_written(rt: HostRuntime) {
-    for (constraints, mode, octets) in &WRITTEN {
-        assert!(rt;
-            is_written(rt.alloc(), *constraints, *mode, octets),
-            "{octets:?}"
-        );
+    for (parts, mode, octets) in &WRITTEN {
+        is_written(&rt, rt.alloc(), &constraints(*parts), *mode, octets);
     }
 }
 
@@ -105,13 +104,10 @@ fn counted(extensions: &Extensions) -> (u32, usize) {
 
 #[test]
 fn extensions_are_read_and_written(rt: HostRuntime) {
-    let alloc = rt.alloc();
-    let octets = EXTENSIONS.as_slice();
-    let extensions = decode::<Extensions, &[u8]>(alloc, Mode::Der, octets).expect(&rt, "refused");
+    let extensions = read::<Extensions>(&rt, rt.alloc(), &EXTENSIONS);
     assert_eq!(rt; extensions.0.len(), 3);
     assert_eq!(rt; counted(&extensions), (2, 15));
-    let written = encode(alloc, Mode::Der, &extensions).expect(&rt, "not written");
-    assert!(rt; written.as_slice() == octets);
+    is_written(&rt, rt.alloc(), &extensions, Mode::Der, &EXTENSIONS);
 }
 
 #[test]
@@ -121,13 +117,9 @@ fn the_notation_of_a_time_is_told_by_its_tag(rt: HostRuntime) {
         b'0', b'Z', 0x18, 0x0F, b'2', b'0', b'5', b'0', b'0', b'1', b'0', b'1', b'0', b'0', b'0',
         b'0', b'0', b'0', b'Z',
     ];
-    match decode::<Validity, &[u8]>(rt.alloc(), Mode::Der, octets.as_slice()) {
-        Ok(validity) => {
-            assert!(rt; is_utc(&validity.not_before));
-            assert!(rt; !is_utc(&validity.not_after));
-        }
-        Err(_) => panic!(rt; "refused"),
-    }
+    let validity = read::<Validity>(&rt, rt.alloc(), &octets);
+    assert!(rt; is_utc(&validity.not_before));
+    assert!(rt; !is_utc(&validity.not_after));
 }
 
 /// Whether a time is a UTCTime of 13 characters.
@@ -149,19 +141,23 @@ const SIGNATURES: [(&[u8], Option<(u8, u8)>); 2] = [
 ];
 
 /// Returns the two numbers of a signature.
-fn signature_of(alloc: Global, octets: &[u8]) -> Option<(u8, u8)> {
-    match decode::<EcdsaSignature, &[u8]>(alloc, Mode::Der, octets) {
-        Ok(signature) => match (u8::try_from(signature.r), u8::try_from(signature.s)) {
+fn signature_of(rt: &impl Abort, alloc: Global, octets: &[u8]) -> Option<(u8, u8)> {
+    match read_in::<EcdsaSignature>(rt, alloc, Mode::Der, octets) {
+        Some(signature) => match (u8::try_from(signature.r), u8::try_from(signature.s)) {
             (Ok(r), Ok(s)) => Some((r, s)),
             _ => None,
         },
-        Err(_) => None,
+        None => None,
     }
 }
 
 #[test]
 fn a_signature_has_two_numbers(rt: HostRuntime) {
     for (octets, wanted) in &SIGNATURES {
-        assert_eq!(rt; signature_of(rt.alloc(), octets), *wanted, "{octets:?}");
+        assert_eq!(rt;
+            signature_of(&rt, rt.alloc(), octets),
+            *wanted,
+            "{octets:?}"
+        );
     }
 }

@@ -1,6 +1,6 @@
 //! The key is that of RFC 8410, section 10.1; openssl made the certificate; the others are put
 //! together by hand.
-use asn1::{decode, decode_octets, encode};
+use crate::calls::{is_written, read, read_in, refusal};
 use bcder::Mode;
 use certificates::{Certificate, Name, SubjectPublicKeyInfo, Validity};
 
@@ -12,16 +12,12 @@ const NAME: &[u8] = &[
 
 #[test]
 fn names_are_read(rt: HostRuntime) {
-    match decode::<Name, &[u8]>(rt.alloc(), Mode::Der, NAME) {
-        Ok(name) => {
-            assert_eq!(rt; name.rdn_sequence.0.len(), 2);
-            let attributes = &name.rdn_sequence.0[1].0;
-            assert_eq!(rt; attributes.len(), 1);
-            assert_eq!(rt; attributes[0].value.as_slice(), &NAME[24..]);
-        }
-        Err(_) => panic!(rt; "refused"),
-    }
-    assert!(rt; decode::<Name, &[u8]>(rt.alloc(), Mode::Der, &NAME[..26]).is_err());
+    let name = read::<Name>(&rt, rt.alloc(), NAME);
+    assert_eq!(rt; name.rdn_sequence.0.len(), 2);
+    let attributes = &name.rdn_sequence.0[1].0;
+    assert_eq!(rt; attributes.len(), 1);
+    assert_eq!(rt; attributes[0].value.as_slice(), &NAME[24..]);
+    assert!(rt; read_in::<Name>(&rt, rt.alloc(), Mode::Der, &NAME[..26]).is_none());
 }
 
 /// An Ed25519 key, whose algorithm has no parameters (RFC 8410, sections 3 and 10.1).
@@ -33,16 +29,9 @@ const KEY: &[u8] = &[
 
 #[test]
 fn keys_are_read_and_written(rt: HostRuntime) {
-    match decode::<SubjectPublicKeyInfo, &[u8]>(rt.alloc(), Mode::Der, KEY) {
-        Ok(key) => {
-            assert!(rt; key.algorithm.parameters.is_none());
-            match encode(rt.alloc(), Mode::Der, &key) {
-                Ok(octets) => assert_eq!(rt; octets.as_slice(), KEY),
-                Err(_) => panic!(rt; "not written"),
-            }
-        }
-        Err(_) => panic!(rt; "refused"),
-    }
+    let key = read::<SubjectPublicKeyInfo>(&rt, rt.alloc(), KEY);
+    assert!(rt; key.algorithm.parameters.is_none());
+    is_written(&rt, rt.alloc(), &key, Mode::Der, KEY);
 }
 
 /// From 2026 on, for a hundred years: a UTCTime and a GeneralizedTime.
@@ -50,13 +39,8 @@ const VALIDITY: &[u8] = b"\x30\x20\x17\x0D261128000000Z\x18\x0F21261128000000Z";
 
 #[test]
 fn times_are_read_and_written(rt: HostRuntime) {
-    match decode::<Validity, &[u8]>(rt.alloc(), Mode::Der, VALIDITY) {
-        Ok(validity) => match encode(rt.alloc(), Mode::Der, &validity) {
-            Ok(octets) => assert_eq!(rt; octets.as_slice(), VALIDITY),
-            Err(_) => panic!(rt; "not written"),
-        },
-        Err(_) => panic!(rt; "refused"),
-    }
+    let validity = read::<Validity>(&rt, rt.alloc(), VALIDITY);
+    is_written(&rt, rt.alloc(), &validity, Mode::Der, VALIDITY);
 }
 
 /// Octets that are no `Validity`, and the error.
@@ -78,14 +62,10 @@ const REFUSED: [(&[u8], &str); 3] = [
 #[test]
 fn errors_name_the_field(rt: HostRuntime) {
     let alloc = rt.alloc();
-    for (octets, wanted) in REFUSED.iter() {
-        match decode_octets::<Validity>(alloc, Mode::Der, octets) {
-            Ok(_) => panic!(rt; "read"),
-            Err(error) => match format!(in alloc; "{error}") {
-                Ok(text) => assert_eq!(rt; text.as_str(), *wanted),
-                Err(_) => panic!(rt; "no memory"),
-            },
-        }
+    for (octets, wanted) in &REFUSED {
+        let error = refusal::<Validity>(&rt, alloc, octets);
+        let text = format!(in alloc; "{error}").expect(&rt, "no memory");
+        assert_eq!(rt; text.as_str(), *wanted);
     }
 }
 
@@ -108,17 +88,10 @@ const CERTIFICATE: [u8; 205] = [
 
 #[test]
 fn certificates_are_read_and_written(rt: HostRuntime) {
-    match decode::<Certificate, &[u8]>(rt.alloc(), Mode::Der, CERTIFICATE.as_slice()) {
-        Ok(certificate) => {
-            assert_eq!(rt; certificate.tbs_certificate.version.value.value, 0);
-            assert!(rt; certificate.tbs_certificate.extensions.is_none());
-            match encode(rt.alloc(), Mode::Der, &certificate) {
-                Ok(octets) => assert_eq!(rt; octets.as_slice(), CERTIFICATE.as_slice()),
-                Err(_) => panic!(rt; "not written"),
-            }
-        }
-        Err(_) => panic!(rt; "refused"),
-    }
+    let certificate = read::<Certificate>(&rt, rt.alloc(), &CERTIFICATE);
+    assert_eq!(rt; certificate.tbs_certificate.version.value.value, 0);
+    assert!(rt; certificate.tbs_certificate.extensions.is_none());
+    is_written(&rt, rt.alloc(), &certificate, Mode::Der, &CERTIFICATE);
 }
 
 /// The end of `notAfter` is another letter.
@@ -127,14 +100,10 @@ fn errors_lead_through_a_certificate(rt: HostRuntime) {
     let alloc = rt.alloc();
     let mut octets = CERTIFICATE;
     octets[66] = b'A';
-    match decode_octets::<Certificate>(alloc, Mode::Der, octets.as_slice()) {
-        Ok(_) => panic!(rt; "read"),
-        Err(error) => match format!(in alloc; "{}", error.path) {
-            Ok(path) => assert_eq!(rt;
-                path.as_str(),
-                "Certificate.tbs_certificate.validity.not_after.utc_time"
-            ),
-            Err(_) => panic!(rt; "no memory"),
-        },
-    }
+    let error = refusal::<Certificate>(&rt, alloc, octets.as_slice());
+    let path = format!(in alloc; "{}", error.path).expect(&rt, "no memory");
+    assert_eq!(rt;
+        path.as_str(),
+        "Certificate.tbs_certificate.validity.not_after.utc_time"
+    );
 }

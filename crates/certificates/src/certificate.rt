@@ -2,9 +2,13 @@
 ghost use Rattle.std.specs.Prelude.{refl};
 
 use crate::{AlgorithmIdentifier, TbsCertificate};
-use asn1::{ByRef, DecodeDefinition, Definition, EncodeDefinition, Sequence, UseParts};
-use bcder::decode::Source;
-use bcder::{BitString, Tag};
+use asn1::{
+    ByRef, Decode, DecodeParts, Encode, EncodeParts, Parts, Sequence, SequenceTag, Trace, Type,
+    UseParts,
+};
+use bcder::decode::{Constructed, DecodeError, Source};
+use bcder::{BitString, Mode, Tag};
+use std::alloc::Global;
 
 /// A certificate (RFC 5280, section 4.1).
 ///
@@ -24,8 +28,13 @@ pub struct Certificate {
     pub signature_value: BitString,
 }
 
-impl Definition for Certificate {
-    type As = Sequence<(TbsCertificate, AlgorithmIdentifier, BitString)>;
+/// What defines [`Certificate`].
+type CertificateParts = Sequence<(TbsCertificate, AlgorithmIdentifier, BitString)>;
+
+impl Parts for Certificate {
+    type As = CertificateParts;
+
+    type Tags = SequenceTag;
 
     const NAME: &'static str = "Certificate";
 
@@ -37,9 +46,9 @@ impl Definition for Certificate {
 
     ghost parts = { λ x. (x.tbs_certificate, x.signature_algorithm, x.signature_value) };
 
-    fn from_parts(
-        value: Sequence<(TbsCertificate, AlgorithmIdentifier, BitString)>,
-    ) -> Certificate {
+    ghost typed = { ⟦<CertificateParts as Type>⟧ };
+
+    fn from_parts(value: CertificateParts) -> Certificate {
         let Sequence((tbs_certificate, signature_algorithm, signature_value)) = value;
         Certificate {
             tbs_certificate,
@@ -47,11 +56,26 @@ impl Definition for Certificate {
             signature_value,
         }
     }
+
+    fn parts_are_one() {
+        <CertificateParts>::values_are_one();
+    }
 }
 
-impl<S: Source> DecodeDefinition<S> for Certificate {}
+impl<S: Source> DecodeParts<S> for Certificate {
+    fn trace_parts<P: Trace>(
+        alloc: Global,
+        cons: &mut Constructed<'_, S>,
+        tag: Tag,
+        path: &mut P,
+    ) -> Result<Option<CertificateParts>, DecodeError<S::Error>> {
+        <CertificateParts>::trace_opt_if(alloc, cons, tag, path)
+    }
+}
 
-impl EncodeDefinition for Certificate {
+impl EncodeParts for Certificate {
+    ghost written = { ⟦<CertificateParts as Encode>⟧ };
+
     fn give_parts<T, U: UseParts<T>>(&self, tag: Tag, to: U, target: &mut T) -> U::Out {
         to.use_parts(
             &Sequence((
@@ -62,6 +86,10 @@ impl EncodeDefinition for Certificate {
             tag,
             target,
         )
+    }
+
+    fn are_read_back(tag: Tag, mode: Mode) {
+        <CertificateParts>::is_read_back(tag, mode);
     }
 
     ghost made = { λ v. (

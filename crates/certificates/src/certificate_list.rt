@@ -2,9 +2,13 @@
 ghost use Rattle.std.specs.Prelude.{refl};
 
 use crate::{AlgorithmIdentifier, TbsCertList};
-use asn1::{ByRef, DecodeDefinition, Definition, EncodeDefinition, Sequence, UseParts};
-use bcder::decode::Source;
-use bcder::{BitString, Tag};
+use asn1::{
+    ByRef, Decode, DecodeParts, Encode, EncodeParts, Parts, Sequence, SequenceTag, Trace, Type,
+    UseParts,
+};
+use bcder::decode::{Constructed, DecodeError, Source};
+use bcder::{BitString, Mode, Tag};
+use std::alloc::Global;
 
 /// A list of certificates that are revoked: a CRL (RFC 5280, section 5.1).
 ///
@@ -24,8 +28,13 @@ pub struct CertificateList {
     pub signature_value: BitString,
 }
 
-impl Definition for CertificateList {
-    type As = Sequence<(TbsCertList, AlgorithmIdentifier, BitString)>;
+/// What defines [`CertificateList`].
+type CertificateListParts = Sequence<(TbsCertList, AlgorithmIdentifier, BitString)>;
+
+impl Parts for CertificateList {
+    type As = CertificateListParts;
+
+    type Tags = SequenceTag;
 
     const NAME: &'static str = "CertificateList";
 
@@ -37,9 +46,9 @@ impl Definition for CertificateList {
 
     ghost parts = { λ x. (x.tbs_cert_list, x.signature_algorithm, x.signature_value) };
 
-    fn from_parts(
-        value: Sequence<(TbsCertList, AlgorithmIdentifier, BitString)>,
-    ) -> CertificateList {
+    ghost typed = { ⟦<CertificateListParts as Type>⟧ };
+
+    fn from_parts(value: CertificateListParts) -> CertificateList {
         let Sequence((tbs_cert_list, signature_algorithm, signature_value)) = value;
         CertificateList {
             tbs_cert_list,
@@ -47,11 +56,26 @@ impl Definition for CertificateList {
             signature_value,
         }
     }
+
+    fn parts_are_one() {
+        <CertificateListParts>::values_are_one();
+    }
 }
 
-impl<S: Source> DecodeDefinition<S> for CertificateList {}
+impl<S: Source> DecodeParts<S> for CertificateList {
+    fn trace_parts<P: Trace>(
+        alloc: Global,
+        cons: &mut Constructed<'_, S>,
+        tag: Tag,
+        path: &mut P,
+    ) -> Result<Option<CertificateListParts>, DecodeError<S::Error>> {
+        <CertificateListParts>::trace_opt_if(alloc, cons, tag, path)
+    }
+}
 
-impl EncodeDefinition for CertificateList {
+impl EncodeParts for CertificateList {
+    ghost written = { ⟦<CertificateListParts as Encode>⟧ };
+
     fn give_parts<T, U: UseParts<T>>(&self, tag: Tag, to: U, target: &mut T) -> U::Out {
         to.use_parts(
             &Sequence((
@@ -62,6 +86,10 @@ impl EncodeDefinition for CertificateList {
             tag,
             target,
         )
+    }
+
+    fn are_read_back(tag: Tag, mode: Mode) {
+        <CertificateListParts>::is_read_back(tag, mode);
     }
 
     ghost made = { λ v. (

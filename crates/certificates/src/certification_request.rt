@@ -3,9 +3,8 @@ ghost use Rattle.std.specs.Prelude.{refl};
 
 use crate::{AlgorithmIdentifier, Name, SubjectPublicKeyInfo, Version};
 use asn1::{
-    Any, ByRef, Context, Decode, DecodeDefinition, DecodeParts, Definition, Encode,
-    EncodeDefinition, EncodeParts, Implicit, ObjectIdentifier, Parts, Sequence, SequenceTag, SetOf,
-    Trace, Type, UseParts,
+    Any, ByRef, Context, Decode, DecodeParts, Encode, EncodeParts, Implicit, ObjectIdentifier,
+    Parts, Sequence, SequenceTag, SetOf, Trace, Type, UseParts,
 };
 use bcder::decode::{Constructed, DecodeError, Source};
 use bcder::{BitString, Mode, Tag};
@@ -29,8 +28,15 @@ pub struct CertificationRequest {
     pub signature: BitString,
 }
 
-impl Definition for CertificationRequest {
-    type As = Sequence<(CertificationRequestInfo, AlgorithmIdentifier, BitString)>;
+/// What defines [`CertificationRequest`].
+type CertificationRequestParts = Sequence<
+    (CertificationRequestInfo, AlgorithmIdentifier, BitString),
+>;
+
+impl Parts for CertificationRequest {
+    type As = CertificationRequestParts;
+
+    type Tags = SequenceTag;
 
     const NAME: &'static str = "CertificationRequest";
 
@@ -42,9 +48,9 @@ impl Definition for CertificationRequest {
 
     ghost parts = { λ x. (x.certification_request_info, x.signature_algorithm, x.signature) };
 
-    fn from_parts(
-        value: Sequence<(CertificationRequestInfo, AlgorithmIdentifier, BitString)>,
-    ) -> CertificationRequest {
+    ghost typed = { ⟦<CertificationRequestParts as Type>⟧ };
+
+    fn from_parts(value: CertificationRequestParts) -> CertificationRequest {
         let Sequence((certification_request_info, signature_algorithm, signature)) = value;
         CertificationRequest {
             certification_request_info,
@@ -52,11 +58,26 @@ impl Definition for CertificationRequest {
             signature,
         }
     }
+
+    fn parts_are_one() {
+        <CertificationRequestParts>::values_are_one();
+    }
 }
 
-impl<S: Source> DecodeDefinition<S> for CertificationRequest {}
+impl<S: Source> DecodeParts<S> for CertificationRequest {
+    fn trace_parts<P: Trace>(
+        alloc: Global,
+        cons: &mut Constructed<'_, S>,
+        tag: Tag,
+        path: &mut P,
+    ) -> Result<Option<CertificationRequestParts>, DecodeError<S::Error>> {
+        <CertificationRequestParts>::trace_opt_if(alloc, cons, tag, path)
+    }
+}
 
-impl EncodeDefinition for CertificationRequest {
+impl EncodeParts for CertificationRequest {
+    ghost written = { ⟦<CertificationRequestParts as Encode>⟧ };
+
     fn give_parts<T, U: UseParts<T>>(&self, tag: Tag, to: U, target: &mut T) -> U::Out {
         to.use_parts(
             &Sequence((
@@ -67,6 +88,10 @@ impl EncodeDefinition for CertificationRequest {
             tag,
             target,
         )
+    }
+
+    fn are_read_back(tag: Tag, mode: Mode) {
+        <CertificationRequestParts>::is_read_back(tag, mode);
     }
 
     ghost made = { λ v. (
@@ -201,8 +226,13 @@ pub struct Attribute {
     pub values: SetOf<Any>,
 }
 
-impl Definition for Attribute {
-    type As = Sequence<(ObjectIdentifier, SetOf<Any>)>;
+/// What defines [`Attribute`].
+type AttributeParts = Sequence<(ObjectIdentifier, SetOf<Any>)>;
+
+impl Parts for Attribute {
+    type As = AttributeParts;
+
+    type Tags = SequenceTag;
 
     const NAME: &'static str = "Attribute";
 
@@ -210,24 +240,45 @@ impl Definition for Attribute {
 
     ghost parts = { λ x. (x.attribute_type, x.values) };
 
-    fn from_parts(value: Sequence<(ObjectIdentifier, SetOf<Any>)>) -> Attribute {
+    ghost typed = { ⟦<AttributeParts as Type>⟧ };
+
+    fn from_parts(value: AttributeParts) -> Attribute {
         let Sequence((attribute_type, values)) = value;
         Attribute {
             attribute_type,
             values,
         }
     }
+
+    fn parts_are_one() {
+        <AttributeParts>::values_are_one();
+    }
 }
 
-impl<S: Source> DecodeDefinition<S> for Attribute {}
+impl<S: Source> DecodeParts<S> for Attribute {
+    fn trace_parts<P: Trace>(
+        alloc: Global,
+        cons: &mut Constructed<'_, S>,
+        tag: Tag,
+        path: &mut P,
+    ) -> Result<Option<AttributeParts>, DecodeError<S::Error>> {
+        <AttributeParts>::trace_opt_if(alloc, cons, tag, path)
+    }
+}
 
-impl EncodeDefinition for Attribute {
+impl EncodeParts for Attribute {
+    ghost written = { ⟦<AttributeParts as Encode>⟧ };
+
     fn give_parts<T, U: UseParts<T>>(&self, tag: Tag, to: U, target: &mut T) -> U::Out {
         to.use_parts(
             &Sequence((ByRef(&self.attribute_type), ByRef(&self.values))),
             tag,
             target,
         )
+    }
+
+    fn are_read_back(tag: Tag, mode: Mode) {
+        <AttributeParts>::is_read_back(tag, mode);
     }
 
     ghost made = { λ v. (record { attribute_type = v.0; values = v.1 }, refl) };

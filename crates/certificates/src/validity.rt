@@ -4,8 +4,8 @@ ghost use Rattle.asn1.specs.declared.choice.Choice2.TheVariants.{One, Two};
 
 use crate::time::{GeneralizedTime, UtcTime};
 use asn1::{
-    ByRef, Choice2, Decode, DecodeDefinition, DecodeParts, Definition, Encode, EncodeDefinition,
-    EncodeParts, Leaf, Parts, Sequence, SequenceTag, Trace, Type, UseParts,
+    ByRef, Choice2, Decode, DecodeParts, Encode, EncodeParts, Leaf, Parts, Sequence, SequenceTag,
+    Trace, Type, UseParts,
 };
 use bcder::decode::{Constructed, DecodeError, Source};
 use bcder::{Mode, Tag};
@@ -103,8 +103,13 @@ pub enum Time {
 
 ghost use Rattle.certificates.specs.declared.validity.Time.TheVariants.{UtcTime, GeneralTime};
 
-impl Definition for Time {
-    type As = Choice2<Leaf<UtcTime>, Leaf<GeneralizedTime>>;
+/// What defines [`Time`].
+type TimeParts = Choice2<Leaf<UtcTime>, Leaf<GeneralizedTime>>;
+
+impl Parts for Time {
+    type As = TimeParts;
+
+    type Tags = TimeParts;
 
     const NAME: &'static str = "Time";
 
@@ -112,22 +117,45 @@ impl Definition for Time {
 
     ghost parts = { elim [ UtcTime t ↦ One t | GeneralTime t ↦ Two t ] };
 
-    fn from_parts(value: Choice2<Leaf<UtcTime>, Leaf<GeneralizedTime>>) -> Time {
+    ghost typed = { ⟦<TimeParts as Type>⟧ };
+
+    fn from_parts(value: TimeParts) -> Time {
         match value {
             Choice2::One(time) => Time::UtcTime(time),
             Choice2::Two(time) => Time::GeneralTime(time),
         }
     }
+
+    fn parts_are_one() {
+        <TimeParts>::values_are_one();
+    }
 }
 
-impl<S: Source> DecodeDefinition<S> for Time {}
+impl<S: Source> DecodeParts<S> for Time {
+    ghost may_lack = { false };
 
-impl EncodeDefinition for Time {
+    fn trace_parts<P: Trace>(
+        alloc: Global,
+        cons: &mut Constructed<'_, S>,
+        tag: Tag,
+        path: &mut P,
+    ) -> Result<Option<TimeParts>, DecodeError<S::Error>> {
+        <TimeParts>::trace_opt_if(alloc, cons, tag, path)
+    }
+}
+
+impl EncodeParts for Time {
+    ghost written = { ⟦<TimeParts as Encode>⟧ };
+
     fn give_parts<T, U: UseParts<T>>(&self, _tag: Tag, to: U, target: &mut T) -> U::Out {
         match self {
             Time::UtcTime(time) => to.use_alternative(time, target),
             Time::GeneralTime(time) => to.use_alternative(time, target),
         }
+    }
+
+    fn are_read_back(tag: Tag, mode: Mode) {
+        <TimeParts>::is_read_back(tag, mode);
     }
 
     ghost made = { elim [ One t ↦ (UtcTime t, refl) | Two t ↦ (GeneralTime t, refl) ] };

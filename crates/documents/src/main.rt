@@ -13,6 +13,7 @@
 #![tactic(auto, using(bcder::specs::laws::Moved::untouched_is_moved))]
 
 mod certificate;
+mod compared;
 mod document;
 mod fields;
 mod list;

@@ -144,12 +144,22 @@ impl<T: Show> Show for Option<T> {
     }
 }
 
+/// Adds a value behind a text.
+fn show_behind<T: Show>(
+    before: &str,
+    value: &T,
+    alloc: Global,
+    text: &mut String,
+) -> Result<(), AllocError> {
+    text.push_str(before)?;
+    value.show(alloc, text)
+}
+
 impl<T: Show> Show for Vec<T> {
     fn show(&self, alloc: Global, text: &mut String) -> Result<(), AllocError> {
         let mut before = "[";
         for value in self.as_slice() {
-            text.push_str(before)?;
-            value.show(alloc, text)?;
+            show_behind(before, value, alloc, text)?;
             before = " ";
         }
         text.push_str(if self.is_empty() { "[]" } else { "]" })
@@ -159,10 +169,8 @@ impl<T: Show> Show for Vec<T> {
 /// Two fields.
 impl<A: Show, B: Show> Show for (A, B) {
     fn show(&self, alloc: Global, text: &mut String) -> Result<(), AllocError> {
-        text.push_str("{")?;
-        self.0.show(alloc, text)?;
-        text.push_str(" ")?;
-        self.1.show(alloc, text)?;
+        show_behind("{", &self.0, alloc, text)?;
+        show_behind(" ", &self.1, alloc, text)?;
         text.push_str("}")
     }
 }
@@ -170,12 +178,9 @@ impl<A: Show, B: Show> Show for (A, B) {
 /// Three fields.
 impl<A: Show, B: Show, C: Show> Show for (A, B, C) {
     fn show(&self, alloc: Global, text: &mut String) -> Result<(), AllocError> {
-        text.push_str("{")?;
-        self.0.show(alloc, text)?;
-        text.push_str(" ")?;
-        self.1.show(alloc, text)?;
-        text.push_str(" ")?;
-        self.2.show(alloc, text)?;
+        show_behind("{", &self.0, alloc, text)?;
+        show_behind(" ", &self.1, alloc, text)?;
+        show_behind(" ", &self.2, alloc, text)?;
         text.push_str("}")
     }
 }
@@ -183,14 +188,10 @@ impl<A: Show, B: Show, C: Show> Show for (A, B, C) {
 /// Four fields.
 impl<A: Show, B: Show, C: Show, D: Show> Show for (A, B, C, D) {
     fn show(&self, alloc: Global, text: &mut String) -> Result<(), AllocError> {
-        text.push_str("{")?;
-        self.0.show(alloc, text)?;
-        text.push_str(" ")?;
-        self.1.show(alloc, text)?;
-        text.push_str(" ")?;
-        self.2.show(alloc, text)?;
-        text.push_str(" ")?;
-        self.3.show(alloc, text)?;
+        show_behind("{", &self.0, alloc, text)?;
+        show_behind(" ", &self.1, alloc, text)?;
+        show_behind(" ", &self.2, alloc, text)?;
+        show_behind(" ", &self.3, alloc, text)?;
         text.push_str("}")
     }
 }
@@ -198,14 +199,8 @@ impl<A: Show, B: Show, C: Show, D: Show> Show for (A, B, C, D) {
 impl<A: Show, B: Show> Show for Choice2<A, B> {
     fn show(&self, alloc: Global, text: &mut String) -> Result<(), AllocError> {
         match self {
-            Choice2::One(value) => {
-                text.push_str("1:")?;
-                value.show(alloc, text)
-            }
-            Choice2::Two(value) => {
-                text.push_str("2:")?;
-                value.show(alloc, text)
-            }
+            Choice2::One(value) => show_behind("1:", value, alloc, text),
+            Choice2::Two(value) => show_behind("2:", value, alloc, text),
         }
     }
 }
@@ -213,18 +208,9 @@ impl<A: Show, B: Show> Show for Choice2<A, B> {
 impl<A: Show, B: Show, C: Show> Show for Choice3<A, B, C> {
     fn show(&self, alloc: Global, text: &mut String) -> Result<(), AllocError> {
         match self {
-            Choice3::One(value) => {
-                text.push_str("1:")?;
-                value.show(alloc, text)
-            }
-            Choice3::Two(value) => {
-                text.push_str("2:")?;
-                value.show(alloc, text)
-            }
-            Choice3::Three(value) => {
-                text.push_str("3:")?;
-                value.show(alloc, text)
-            }
+            Choice3::One(value) => show_behind("1:", value, alloc, text),
+            Choice3::Two(value) => show_behind("2:", value, alloc, text),
+            Choice3::Three(value) => show_behind("3:", value, alloc, text),
         }
     }
 }

@@ -1,17 +1,14 @@
 //! Compares values that are cut, or have an octet changed: whether they are read, and then what is
 //! written of them.
-use crate::types::{Choice, KINDS, Kind, Marked, Nested, Record, Tagged, Wrapped};
+use crate::compared::{Compared, compare_kind};
+use crate::types::KINDS;
 use crate::values::{Tallies, is_written, read};
 use anyhow::Error;
-use asn1::{Any, Decode, Encode, Leaf, ObjectIdentifier, SequenceOf, SetOf};
+use asn1::{Decode, Encode};
+use bcder::Mode;
 use bcder::decode::BytesSource;
-use bcder::string::Utf8String;
-use bcder::{BitString, Integer, Mode, OctetString};
-use certificates::{AlgorithmIdentifier, GeneralizedTime, UtcTime};
 use lines::fields::{find, next, octets_of};
-use lines::malformed::Malformed;
 use std::alloc::Global;
-use std::str::Split;
 
 /// How an octet is changed.
 #[derive(Clone, Copy, Debug, PartialEq, Eq)]
@@ -65,17 +62,27 @@ fn compare_read<T: Decode<BytesSource>>(
     Ok(value)
 }
 
+/// A value of the data, with the columns of its line.
+#[derive(Drop)]
+pub struct Changes<'a> {
+    octets: Vec<u8>,
+    line: &'a str,
+}
+
 /// Compares a value of a type.
-fn compare<T: Decode<BytesSource> + Encode>(
+pub fn compare<T: Decode<BytesSource> + Encode>(
     alloc: Global,
-    octets: &[u8],
-    columns: &mut Split<'_, char>,
+    changes: &Changes<'_>,
     tallies: &mut Tallies,
 ) -> Result<(), Error> {
+    // the columns behind the type and the octets
+    let mut columns = changes.line.split('\t');
+    next(&mut columns)?;
+    next(&mut columns)?;
     for turn in TURNS {
         let mut index = 0usize;
-        for answer in next(columns)?.chars() {
-            let changed = turned(alloc, octets, index, turn)?;
+        for answer in next(&mut columns)?.chars() {
+            let changed = turned(alloc, changes.octets.as_slice(), index, turn)?;
             if let Some(value) = compare_read::<T>(alloc, &changed, answer != '-', tallies)? {
                 let same = is_written(alloc, Mode::Der, &value, &changed);
                 tallies.written.count(same);
@@ -90,34 +97,7 @@ fn compare<T: Decode<BytesSource> + Encode>(
 pub fn compare_line(alloc: Global, line: &str, tallies: &mut Tallies) -> Result<(), Error> {
     let mut fields = line.split('\t');
     let kind = find(&KINDS, next(&mut fields)?)?;
-    let all = octets_of(alloc, next(&mut fields)?)?;
-    let octets = all.as_slice();
-    match kind {
-        Kind::I8 => compare::<i8>(alloc, octets, &mut fields, tallies),
-        Kind::U16 => compare::<u16>(alloc, octets, &mut fields, tallies),
-        Kind::I32 => compare::<i32>(alloc, octets, &mut fields, tallies),
-        Kind::U64 => compare::<u64>(alloc, octets, &mut fields, tallies),
-        Kind::I128 => compare::<i128>(alloc, octets, &mut fields, tallies),
-        Kind::U128 => compare::<u128>(alloc, octets, &mut fields, tallies),
-        Kind::Integer => compare::<Integer>(alloc, octets, &mut fields, tallies),
-        Kind::Boolean => compare::<bool>(alloc, octets, &mut fields, tallies),
-        Kind::Null => compare::<()>(alloc, octets, &mut fields, tallies),
-        Kind::Identifier => compare::<ObjectIdentifier>(alloc, octets, &mut fields, tallies),
-        Kind::Octets => compare::<OctetString>(alloc, octets, &mut fields, tallies),
-        Kind::Bits => compare::<BitString>(alloc, octets, &mut fields, tallies),
-        Kind::Utf8 => compare::<Utf8String>(alloc, octets, &mut fields, tallies),
-        Kind::Record => compare::<Record>(alloc, octets, &mut fields, tallies),
-        Kind::List => compare::<SequenceOf<i32>>(alloc, octets, &mut fields, tallies),
-        Kind::Set => compare::<SetOf<i32>>(alloc, octets, &mut fields, tallies),
-        Kind::Sets => compare::<SetOf<OctetString>>(alloc, octets, &mut fields, tallies),
-        Kind::Choice => compare::<Choice>(alloc, octets, &mut fields, tallies),
-        Kind::Explicit => compare::<Wrapped>(alloc, octets, &mut fields, tallies),
-        Kind::Implicit => compare::<Marked>(alloc, octets, &mut fields, tallies),
-        Kind::Tagged => compare::<Tagged>(alloc, octets, &mut fields, tallies),
-        Kind::Nested => compare::<Nested>(alloc, octets, &mut fields, tallies),
-        Kind::Utc => compare::<Leaf<UtcTime>>(alloc, octets, &mut fields, tallies),
-        Kind::General => compare::<Leaf<GeneralizedTime>>(alloc, octets, &mut fields, tallies),
-        Kind::Any => compare::<Any>(alloc, octets, &mut fields, tallies),
-        Kind::Algorithm => compare::<AlgorithmIdentifier>(alloc, octets, &mut fields, tallies),
-    }
+    let octets = octets_of(alloc, next(&mut fields)?)?;
+    let changes = Compared::Turned(Changes { octets, line });
+    compare_kind(alloc, kind, &changes, tallies)
 }

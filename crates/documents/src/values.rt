@@ -1,14 +1,13 @@
 //! Compares random values: what is read of them, and what is written.
+use crate::compared::{Compared, compare_kind};
 use crate::shown::Show;
-use crate::types::{Choice, Either, KINDS, Kind, Marked, Nested, Record, Tagged, Wrapped};
+use crate::types::KINDS;
 use anyhow::Error;
-use asn1::{Decode, Encode, ObjectIdentifier, SequenceOf, SetOf, decode, encode};
+use asn1::{Decode, Encode, decode, encode};
+use bcder::Mode;
 use bcder::decode::BytesSource;
-use bcder::string::Utf8String;
-use bcder::{BitString, Integer, Mode, OctetString};
 use bytes::Bytes;
 use lines::fields::{find, next, octets_of};
-use lines::malformed::Malformed;
 use lines::tally::{Differing, Tally, differ_in};
 use std::alloc::Global;
 
@@ -48,7 +47,7 @@ pub fn is_written<T: Encode>(alloc: Global, mode: Mode, value: &T, octets: &[u8]
 
 /// A value of the data.
 #[derive(Drop)]
-struct Row<'a> {
+pub struct Row<'a> {
     /// What is read in BER, as a text.
     text: &'a str,
 
@@ -117,7 +116,7 @@ fn compare_written<T: Decode<BytesSource> + Encode + Show>(
 }
 
 /// Compares a value of a type.
-fn compare<T: Decode<BytesSource> + Encode + Show>(
+pub fn compare<T: Decode<BytesSource> + Encode + Show>(
     alloc: Global,
     row: &Row<'_>,
     tallies: &mut Tallies,
@@ -144,36 +143,12 @@ pub fn compare_line(alloc: Global, line: &str, tallies: &mut Tallies) -> Result<
     let ber = next(&mut fields)?;
     let cer = or_before(next(&mut fields)?, ber);
     let der = or_before(next(&mut fields)?, cer);
-    let row = Row {
+    let row = Compared::Value(Row {
         text,
         sorted,
         ber: octets_of(alloc, ber)?,
         cer: octets_of(alloc, cer)?,
         der: octets_of(alloc, der)?,
-    };
-    match kind {
-        Kind::I8 => compare::<i8>(alloc, &row, tallies),
-        Kind::U16 => compare::<u16>(alloc, &row, tallies),
-        Kind::I32 => compare::<i32>(alloc, &row, tallies),
-        Kind::U64 => compare::<u64>(alloc, &row, tallies),
-        Kind::I128 => compare::<i128>(alloc, &row, tallies),
-        Kind::U128 => compare::<u128>(alloc, &row, tallies),
-        Kind::Integer => compare::<Integer>(alloc, &row, tallies),
-        Kind::Boolean => compare::<bool>(alloc, &row, tallies),
-        Kind::Null => compare::<()>(alloc, &row, tallies),
-        Kind::Identifier => compare::<ObjectIdentifier>(alloc, &row, tallies),
-        Kind::Octets => compare::<OctetString>(alloc, &row, tallies),
-        Kind::Bits => compare::<BitString>(alloc, &row, tallies),
-        Kind::Utf8 => compare::<Utf8String>(alloc, &row, tallies),
-        Kind::Record => compare::<Record>(alloc, &row, tallies),
-        Kind::List => compare::<SequenceOf<i32>>(alloc, &row, tallies),
-        Kind::Set => compare::<SetOf<i32>>(alloc, &row, tallies),
-        Kind::Sets => compare::<SetOf<OctetString>>(alloc, &row, tallies),
-        Kind::Choice => compare::<Choice>(alloc, &row, tallies),
-        Kind::Explicit => compare::<Wrapped>(alloc, &row, tallies),
-        Kind::Implicit => compare::<Marked>(alloc, &row, tallies),
-        Kind::Tagged => compare::<Tagged>(alloc, &row, tallies),
-        Kind::Nested => compare::<Nested>(alloc, &row, tallies),
-        Kind::Utc | Kind::General | Kind::Any | Kind::Algorithm => Err(Error::from(Malformed)),
-    }
+    });
+    compare_kind(alloc, kind, &row, tallies)
 }
