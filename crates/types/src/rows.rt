@@ -3,7 +3,7 @@ ghost use Rattle.std.specs.Prelude.{IsTrue};
 ghost use Rattle.bcder.specs.declared.mode.Mode.{Mode as Rules};
 
 use crate::cut::{Cut, IsCut};
-use asn1::laws::round_trip;
+use asn1::laws::{is_decoded_back, round_trip};
 use asn1::{Clear, Decode, Encode, TypeError, decode, decode_octets, encode};
 use bcder::Mode;
 use bcder::decode::{BytesSource, DecodeError, SliceSource};
@@ -222,7 +222,7 @@ pub fn value<T: Decode<BytesSource>>(
 }
 
 /// Reads the octets of each row, writes the value, and does so again with what `round_trip`
-/// returns. The checker finds out that each value comes back.
+/// returns. The checker finds out that each value comes back, and so does `is_decoded_back`.
 pub fn come_back<T: Clear + Decode<BytesSource>>(rt: &impl Abort, alloc: Global, rows: &[Again<'_>])
     requires distinct { IsTrue T.distinct }
     requires always { (mode : Rules) → IsTrue (T.always_clear mode) }
@@ -230,6 +230,7 @@ pub fn come_back<T: Clear + Decode<BytesSource>>(rt: &impl Abort, alloc: Global,
     for (mode, octets, other, wanted) in rows {
         let x = value::<T>(rt, alloc, *mode, octets);
         writes(rt, alloc, &x, *other, wanted);
+        assert!(rt; is_decoded_back(&x, *other));
         let y = done(rt, round_trip(alloc, *other, &x));
         writes(rt, alloc, &y, *other, wanted);
     }
