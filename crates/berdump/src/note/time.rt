@@ -30,11 +30,11 @@ enum Zone {
     /// It is in UTC.
     Utc,
 
-    /// It is ahead by hours and minutes.
-    Ahead(u8, u8),
+    /// It is ahead by hours, and by minutes if they are there.
+    Ahead(u8, Option<u8>),
 
-    /// It is behind by hours and minutes.
-    Behind(u8, u8),
+    /// It is behind by hours, and by minutes if they are there.
+    Behind(u8, Option<u8>),
 
     /// It isn't known.
     Local,
@@ -79,8 +79,14 @@ impl fmt::Display for Zone {
     fn fmt<W: fmt::Write>(&self, f: &mut fmt::Formatter<W>) -> fmt::Result {
         match *self {
             Zone::Utc => write!(f, "UTC"),
-            Zone::Ahead(hours, minutes) => write!(f, "+{hours:02}:{minutes:02}"),
-            Zone::Behind(hours, minutes) => write!(f, "-{hours:02}:{minutes:02}"),
+            Zone::Ahead(hours, minutes) => {
+                let minutes = minutes.unwrap_or(0);
+                write!(f, "+{hours:02}:{minutes:02}")
+            }
+            Zone::Behind(hours, minutes) => {
+                let minutes = minutes.unwrap_or(0);
+                write!(f, "-{hours:02}:{minutes:02}")
+            }
             Zone::Local => write!(f, "local time"),
         }
     }
@@ -196,8 +202,8 @@ fn clock_in(octets: &[u8]) -> Option<(Clock<'_>, &[u8])> {
     Some((clock, rest))
 }
 
-/// Returns the hours and minutes that octets are.
-fn difference_in(octets: &[u8]) -> Option<(u8, u8)> {
+/// Returns the hours that octets are, and the minutes if they are there.
+fn difference_in(octets: &[u8]) -> Option<(u8, Option<u8>)> {
     let Some((hours, rest)) = two_digits(octets, 23) else {
         return None;
     };
@@ -207,7 +213,7 @@ fn difference_in(octets: &[u8]) -> Option<(u8, u8)> {
     if !rest.is_empty() {
         return None;
     }
-    Some((hours, minutes.unwrap_or(0)))
+    Some((hours, minutes))
 }
 
 /// Returns the zone that octets are.
@@ -254,8 +260,11 @@ fn utc_time_in(octets: &[u8]) -> Option<Time<'_>> {
     if time.clock.minute.is_none() || !time.clock.fraction.is_empty() {
         return None;
     }
+    if time.clock.second == Some(60) {
+        return None;
+    }
     match time.zone {
-        Zone::Local => None,
+        Zone::Local | Zone::Ahead(_, None) | Zone::Behind(_, None) => None,
         _ => Some(time),
     }
 }
