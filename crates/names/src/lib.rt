@@ -160,7 +160,7 @@ mod tests {
             assert_eq!(rt; found, lines);
             all = all.wrapping_add(lines);
         }
-        assert_eq!(rt; all, 1392);
+        assert_eq!(rt; all, 1403);
         Ok(())
     }
 
