@@ -8,6 +8,7 @@ use bcder::{Integer, Mode, OctetString, Oid, Unsigned};
 use bytes::Bytes;
 use std::alloc::Global;
 use std::convert::TryFrom;
+use support::calls::{Answer, Call, Pass, ask};
 
 /// A call that takes a value.
 #[derive(Clone, Copy)]
@@ -20,11 +21,8 @@ enum Take {
     Identifier,
     OptIdentifier,
     IdentifierOf,
-    SkipOne,
-    SkipOpt,
-    Skip,
-    SkipAll,
-    SkipSix,
+    Skip(Pass),
+    SkipSix(Pass),
     Collect,
 }
 
@@ -37,11 +35,14 @@ const TAKES: [(&str, Take); 14] = [
     ("Oid::take_from", Take::Identifier),
     ("Oid::take_opt_from", Take::OptIdentifier),
     ("Oid::from_primitive", Take::IdentifierOf),
-    ("Constructed::skip_one", Take::SkipOne),
-    ("Constructed::skip_opt", Take::SkipOpt),
-    ("Constructed::skip", Take::Skip),
-    ("Constructed::skip_all", Take::SkipAll),
-    ("Constructed::skip_opt, six levels", Take::SkipSix),
+    ("Constructed::skip_one", Take::Skip(Pass::SkipOne)),
+    ("Constructed::skip_opt", Take::Skip(Pass::SkipOpt)),
+    ("Constructed::skip", Take::Skip(Pass::Skip)),
+    ("Constructed::skip_all", Take::Skip(Pass::SkipAll)),
+    (
+        "Constructed::skip_opt, six levels",
+        Take::SkipSix(Pass::SkipOpt),
+    ),
     ("Constructed::collect_some", Take::Collect),
 ];
 
@@ -83,44 +84,15 @@ fn take_octets<S: Source>(
     Ok(octets.as_slice() == wanted)
 }
 
-/// Skips the next value with a closure that refuses nothing.
-fn skip_opt<S: Source>(
-    cons: &mut Constructed<'_, S>,
-    alloc: Global,
-) -> Result<Option<()>, DecodeError<S::Error>>
-    ensures { Moved S.stream cons }
-{
-    cons.skip_opt(alloc, &mut |_tag, _constructed, _depth| Ok(()))
-}
-
-/// Skips the next value, which has to be there, with a closure that refuses nothing.
-fn skip_next<S: Source>(
-    cons: &mut Constructed<'_, S>,
-    alloc: Global,
-) -> Result<bool, DecodeError<S::Error>>
-    ensures { Moved S.stream cons }
-{
-    cons.skip(alloc, &mut |_tag, _constructed, _depth| Ok(()))?;
-    Ok(true)
-}
-
-/// Skips values, and returns whether there was one.
+/// Skips values by a call, and returns whether there was one.
 fn skip<S: Source>(
     cons: &mut Constructed<'_, S>,
     alloc: Global,
-    take: Take,
+    pass: Pass,
 ) -> Result<bool, DecodeError<S::Error>>
     ensures { Moved S.stream cons }
 {
-    match take {
-        Take::SkipOne => Ok(cons.skip_one(alloc)?.is_some()),
-        Take::SkipOpt | Take::SkipSix => Ok(skip_opt(cons, alloc)?.is_some()),
-        Take::Skip => skip_next(cons, alloc),
-        _ => {
-            cons.skip_all(alloc)?;
-            Ok(true)
-        }
-    }
+    Ok(ask(cons, alloc, Call::Pass(pass))? == Answer::Passed)
 }
 
 /// The numbers that are collected, more than a vector has room for after two allocations.
@@ -149,9 +121,7 @@ fn take_value<S: Source>(
     ensures { Moved S.stream cons }
 {
     match take {
-        Take::SkipOne | Take::SkipOpt | Take::Skip | Take::SkipAll | Take::SkipSix => {
-            skip(cons, alloc, take)
-        }
+        Take::Skip(pass) | Take::SkipSix(pass) => skip(cons, alloc, pass),
         Take::Collect => collect(cons, alloc),
         _ => take_octets(cons, alloc, take, wanted),
     }
@@ -269,7 +239,7 @@ fn value_for(alloc: Global, take: Take) -> Result<Vec<u8>, Error> {
         Take::Identifier | Take::OptIdentifier | Take::IdentifierOf => {
             short(alloc, 0x06, &CONTENTS)
         }
-        Take::SkipSix => deep(alloc, 6),
+        Take::SkipSix(_) => deep(alloc, 6),
         Take::Collect => integers(alloc),
         _ => deep(alloc, LEVELS),
     }

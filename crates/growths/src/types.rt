@@ -1,5 +1,5 @@
 //! Types of `asn1`: values that are decoded and encoded again.
-use crate::end::{End, answered, refused, tell};
+use crate::end::{End, answered, refused, tell_all};
 use anyhow::Error;
 use asn1::{
     Any, Choice2, Context, Decode, Encode, Explicit, ObjectIdentifier, OctetStringRef, Sequence,
@@ -81,53 +81,72 @@ pub fn is_plain_again(alloc: Global, target: &mut Vec<u8>) -> bool {
     is_again::<Plain<'static>>(alloc, PLAIN, target)
 }
 
+/// Octets of types that hold no others.
+const INTEGER: &[u8] = &[0x02, 0x02, 0xFF, 0x00];
+
+const UNSIGNED: &[u8] = &[0x02, 0x02, 0x00, 0xFF];
+
+const IDENTIFIER: &[u8] = &[0x06, 0x02, 0x2A, 0x03];
+
+const BITS: &[u8] = &[0x03, 0x02, 0x04, 0xB0];
+
+const OCTETS: &[u8] = &[0x04, 0x02, 0x07, 0x08];
+
+const TEXT: &[u8] = &[0x0C, 0x02, 0x41, 0x42];
+
+const NUMBER: &[u8] = &[0x02, 0x01, 0x05];
+
+/// Octets of types that hold others.
+const EXPLICIT: &[u8] = &[0xA0, 0x04, 0x04, 0x02, 0x07, 0x08];
+
+const LIST: &[u8] = &[0x30, 0x06, 0x02, 0x01, 0x07, 0x02, 0x01, 0x05];
+
+const SET_OF: &[u8] = &[0x31, 0x06, 0x02, 0x01, 0x05, 0x02, 0x01, 0x07];
+
+const SET: &[u8] = &[0x31, 0x06, 0x01, 0x01, 0xFF, 0x02, 0x01, 0x05];
+
+fn leaves(alloc: Global) -> [(&'static str, End); 5] {
+    [
+        ("asn1, lent octets", again::<Plain<'static>>(alloc, PLAIN)),
+        ("asn1, Integer", again::<Integer>(alloc, INTEGER)),
+        ("asn1, Unsigned", again::<Unsigned>(alloc, UNSIGNED)),
+        (
+            "asn1, ObjectIdentifier",
+            again::<ObjectIdentifier>(alloc, IDENTIFIER),
+        ),
+        ("asn1, BitString", again::<BitString>(alloc, BITS)),
+    ]
+}
+
+fn strings(alloc: Global) -> [(&'static str, End); 5] {
+    [
+        ("asn1, OctetString", again::<OctetString>(alloc, OCTETS)),
+        ("asn1, OctetString, in segments", joined(alloc)),
+        ("asn1, Utf8String", again::<Utf8String>(alloc, TEXT)),
+        ("asn1, Any", again::<Any>(alloc, PLAIN)),
+        ("asn1, Box", again::<Box<u32>>(alloc, NUMBER)),
+    ]
+}
+
+fn composed(alloc: Global) -> [(&'static str, End); 6] {
+    [
+        (
+            "asn1, Choice2",
+            again::<Choice2<Integer, OctetString>>(alloc, OCTETS),
+        ),
+        (
+            "asn1, Explicit",
+            again::<Explicit<Context<0>, OctetString>>(alloc, EXPLICIT),
+        ),
+        ("asn1, SequenceOf", again::<SequenceOf<u32>>(alloc, LIST)),
+        ("asn1, SetOf", again::<SetOf<u32>>(alloc, SET_OF)),
+        ("asn1, Set", again::<Set<(bool, u32)>>(alloc, SET)),
+        ("asn1, a refusal", refuses(alloc)),
+    ]
+}
+
 pub fn run(rt: &HostRuntime) -> Result<(), Error> {
-    let alloc = rt.alloc();
-    tell(
-        rt,
-        "asn1, lent octets",
-        again::<Plain<'static>>(alloc, PLAIN),
-    )?;
-    let integer: &[u8] = &[0x02, 0x02, 0xFF, 0x00];
-    tell(rt, "asn1, Integer", again::<Integer>(alloc, integer))?;
-    let unsigned: &[u8] = &[0x02, 0x02, 0x00, 0xFF];
-    tell(rt, "asn1, Unsigned", again::<Unsigned>(alloc, unsigned))?;
-    let identifier: &[u8] = &[0x06, 0x02, 0x2A, 0x03];
-    tell(
-        rt,
-        "asn1, ObjectIdentifier",
-        again::<ObjectIdentifier>(alloc, identifier),
-    )?;
-    let bits: &[u8] = &[0x03, 0x02, 0x04, 0xB0];
-    tell(rt, "asn1, BitString", again::<BitString>(alloc, bits))?;
-    let octets: &[u8] = &[0x04, 0x02, 0x07, 0x08];
-    tell(rt, "asn1, OctetString", again::<OctetString>(alloc, octets))?;
-    tell(rt, "asn1, OctetString, in segments", joined(alloc))?;
-    let text: &[u8] = &[0x0C, 0x02, 0x41, 0x42];
-    tell(rt, "asn1, Utf8String", again::<Utf8String>(alloc, text))?;
-    tell(rt, "asn1, Any", again::<Any>(alloc, PLAIN))?;
-    let number: &[u8] = &[0x02, 0x01, 0x05];
-    tell(rt, "asn1, Box", again::<Box<u32>>(alloc, number))?;
-    tell(
-        rt,
-        "asn1, Choice2",
-        again::<Choice2<Integer, OctetString>>(alloc, octets),
-    )?;
-    let explicit: &[u8] = &[0xA0, 0x04, 0x04, 0x02, 0x07, 0x08];
-    tell(
-        rt,
-        "asn1, Explicit",
-        again::<Explicit<Context<0>, OctetString>>(alloc, explicit),
-    )?;
-    let list: &[u8] = &[0x30, 0x06, 0x02, 0x01, 0x07, 0x02, 0x01, 0x05];
-    tell(
-        rt,
-        "asn1, SequenceOf",
-        again::<SequenceOf<u32>>(alloc, list),
-    )?;
-    let set_of: &[u8] = &[0x31, 0x06, 0x02, 0x01, 0x05, 0x02, 0x01, 0x07];
-    tell(rt, "asn1, SetOf", again::<SetOf<u32>>(alloc, set_of))?;
-    let set: &[u8] = &[0x31, 0x06, 0x01, 0x01, 0xFF, 0x02, 0x01, 0x05];
-    tell(rt, "asn1, Set", again::<Set<(bool, u32)>>(alloc, set))?;
-    tell(rt, "asn1, a refusal", refuses(alloc))
+    tell_all(rt, &leaves(rt.alloc()))?;
+    tell_all(rt, &strings(rt.alloc()))?;
+    tell_all(rt, &composed(rt.alloc()))
 }
