@@ -47,7 +47,7 @@ impl fmt::Display for Line<'_> {
         let here = self.octets.split_at(at.min(self.octets.len())).1;
         write!(
             f,
-            "{}octet {at}: {} (X.690, {}): {} stands here, {} is wanted",
+            "{}octet {at}: {} (X.690, {}): found {}, expected {}",
             self.place,
             rule.title(),
             rule.clause(self.mode),
