@@ -7,7 +7,7 @@ ghost use Rattle.asn1.specs.Choices.{EitherTag, IsChoice, choice_key, either_tag
 ghost use Rattle.asn1.specs.Choices.{three_in_two, four_in_two};
 ghost use Rattle.asn1.specs.declared.choice.Choice2.{Choice2 as ChoiceOfKeys};
 
-use crate::{Decode, DecodeDefinition, Definition, Part, Trace, Type};
+use crate::{Decode, DecodeParts, Part, Parts, Trace, Type};
 use bcder::Tag;
 use bcder::decode::{Constructed, DecodeError, Source};
 use std::alloc::Global;
@@ -100,10 +100,15 @@ pub enum Choice3<A, B, C> {
     Three(C),
 }
 
-impl<A: Type, B: Type, C: Type> Definition for Choice3<A, B, C> {
+/// It is [`Parts`], since types that hold it are then checked in less time.
+impl<A: Type, B: Type, C: Type> Parts for Choice3<A, B, C> {
     type As = Choice2<A, Choice2<B, C>>;
 
+    type Tags = Choice2<A, Choice2<B, C>>;
+
     ghost parts = { three_in_two };
+
+    ghost typed = { ⟦<Choice2<A, Choice2<B, C>> as Type>⟧ };
 
     fn from_parts(value: Choice2<A, Choice2<B, C>>) -> Choice3<A, B, C> {
         match value {
@@ -112,10 +117,25 @@ impl<A: Type, B: Type, C: Type> Definition for Choice3<A, B, C> {
             Choice2::Two(Choice2::Two(three)) => Choice3::Three(three),
         }
     }
+
+    fn parts_are_one() {
+        <Choice2<A, Choice2<B, C>>>::values_are_one();
+    }
 }
 
-impl<S: Source, A: Decode<S>, B: Decode<S>, C: Decode<S>> DecodeDefinition<S>
-    for Choice3<A, B, C> {}
+impl<S: Source, A: Decode<S>, B: Decode<S>, C: Decode<S>> DecodeParts<S> for Choice3<A, B, C> {
+    ghost may_lack = { A.may_lack || (B.may_lack || C.may_lack) };
+
+    #[inline(always)]
+    fn trace_parts<P: Trace>(
+        alloc: Global,
+        cons: &mut Constructed<'_, S>,
+        tag: Tag,
+        path: &mut P,
+    ) -> Result<Option<Choice2<A, Choice2<B, C>>>, DecodeError<S::Error>> {
+        <Choice2<A, Choice2<B, C>>>::trace_opt_if(alloc, cons, tag, path)
+    }
+}
 
 /// A CHOICE of four types.
 #[derive(Clone, Copy, Debug, PartialEq, Eq, Drop)]
@@ -130,10 +150,15 @@ pub enum Choice4<A, B, C, D> {
     Four(D),
 }
 
-impl<A: Type, B: Type, C: Type, D: Type> Definition for Choice4<A, B, C, D> {
+/// It is [`Parts`], since types that hold it are then checked in less time.
+impl<A: Type, B: Type, C: Type, D: Type> Parts for Choice4<A, B, C, D> {
     type As = Choice2<A, Choice2<B, Choice2<C, D>>>;
 
+    type Tags = Choice2<A, Choice2<B, Choice2<C, D>>>;
+
     ghost parts = { four_in_two };
+
+    ghost typed = { ⟦<Choice2<A, Choice2<B, Choice2<C, D>>> as Type>⟧ };
 
     fn from_parts(value: Choice2<A, Choice2<B, Choice2<C, D>>>) -> Choice4<A, B, C, D> {
         match value {
@@ -143,7 +168,23 @@ impl<A: Type, B: Type, C: Type, D: Type> Definition for Choice4<A, B, C, D> {
             Choice2::Two(Choice2::Two(Choice2::Two(four))) => Choice4::Four(four),
         }
     }
+
+    fn parts_are_one() {
+        <Choice2<A, Choice2<B, Choice2<C, D>>>>::values_are_one();
+    }
 }
 
-impl<S: Source, A: Decode<S>, B: Decode<S>, C: Decode<S>, D: Decode<S>> DecodeDefinition<S>
-    for Choice4<A, B, C, D> {}
+impl<S: Source, A: Decode<S>, B: Decode<S>, C: Decode<S>, D: Decode<S>> DecodeParts<S>
+    for Choice4<A, B, C, D> {
+    ghost may_lack = { A.may_lack || (B.may_lack || (C.may_lack || D.may_lack)) };
+
+    #[inline(always)]
+    fn trace_parts<P: Trace>(
+        alloc: Global,
+        cons: &mut Constructed<'_, S>,
+        tag: Tag,
+        path: &mut P,
+    ) -> Result<Option<Choice2<A, Choice2<B, Choice2<C, D>>>>, DecodeError<S::Error>> {
+        <Choice2<A, Choice2<B, Choice2<C, D>>>>::trace_opt_if(alloc, cons, tag, path)
+    }
+}

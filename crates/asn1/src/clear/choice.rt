@@ -2,7 +2,7 @@
 ghost use Rattle.std.specs.Prelude.{◌&&◌};
 ghost use Rattle.asn1.specs.TagSets.{both_sets, are_distinct, either_in};
 
-use crate::clear::{Clear, ClearDefinition};
+use crate::clear::{Clear, ClearParts};
 use crate::{Choice2, Choice3, Choice4};
 use bcder::Mode;
 
@@ -23,7 +23,9 @@ impl<A: Clear, B: Clear> Clear for Choice2<A, B> {
     ghost in_set = { either_in A.tag_set B.tag_set A.in_set B.in_set };
 }
 
-impl<A: Clear, B: Clear, C: Clear> ClearDefinition for Choice3<A, B, C> {
+impl<A: Clear, B: Clear, C: Clear> ClearParts for Choice3<A, B, C> {
+    ghost cleared = { ⟦<Choice2<A, Choice2<B, C>> as Clear>⟧ };
+
     fn parts_are_clear_in(&self, mode: Mode) -> bool {
         match self {
             Choice3::One(one) => one.is_clear_in(mode),
@@ -31,9 +33,14 @@ impl<A: Clear, B: Clear, C: Clear> ClearDefinition for Choice3<A, B, C> {
             Choice3::Three(three) => three.is_clear_in(mode),
         }
     }
+
+    ghost in_its_set = { either_in A.tag_set (both_sets B.tag_set C.tag_set) A.in_set
+        (either_in B.tag_set C.tag_set B.in_set C.in_set) };
 }
 
-impl<A: Clear, B: Clear, C: Clear, D: Clear> ClearDefinition for Choice4<A, B, C, D> {
+impl<A: Clear, B: Clear, C: Clear, D: Clear> ClearParts for Choice4<A, B, C, D> {
+    ghost cleared = { ⟦<Choice2<A, Choice2<B, Choice2<C, D>>> as Clear>⟧ };
+
     fn parts_are_clear_in(&self, mode: Mode) -> bool {
         match self {
             Choice4::One(one) => one.is_clear_in(mode),
@@ -42,4 +49,8 @@ impl<A: Clear, B: Clear, C: Clear, D: Clear> ClearDefinition for Choice4<A, B, C
             Choice4::Four(four) => four.is_clear_in(mode),
         }
     }
+
+    ghost in_its_set = { either_in A.tag_set (both_sets B.tag_set (both_sets C.tag_set D.tag_set))
+        A.in_set (either_in B.tag_set (both_sets C.tag_set D.tag_set) B.in_set
+        (either_in C.tag_set D.tag_set C.in_set D.in_set)) };
 }

@@ -2,8 +2,7 @@
 ghost use Rattle.asn1.specs.ChoicesWritten.{WritesEither, EitherLacks, IsClearEither};
 ghost use Rattle.asn1.specs.ChoicesWritten.{either_lawful, made_of_three, made_of_four};
 
-use crate::definition_written::EncodeDefinition;
-use crate::parts_written::UseParts;
+use crate::parts_written::{EncodeParts, UseParts};
 use crate::writers::Encode;
 use crate::{Choice2, Choice3, Choice4, Type};
 use bcder::encode::{EncodeError, WriteError};
@@ -51,7 +50,9 @@ impl<A: Encode, B: Encode> Encode for Choice2<A, B> {
 }
 
 /// The value that it holds (X.690, 8.13).
-impl<A: Encode, B: Encode, C: Encode> EncodeDefinition for Choice3<A, B, C> {
+impl<A: Encode, B: Encode, C: Encode> EncodeParts for Choice3<A, B, C> {
+    ghost written = { ⟦<Choice2<A, Choice2<B, C>> as Encode>⟧ };
+
     fn give_parts<T, U: UseParts<T>>(&self, _tag: Tag, to: U, target: &mut T) -> U::Out {
         match self {
             Choice3::One(one) => to.use_alternative(one, target),
@@ -60,11 +61,17 @@ impl<A: Encode, B: Encode, C: Encode> EncodeDefinition for Choice3<A, B, C> {
         }
     }
 
+    fn are_read_back(tag: Tag, mode: Mode) {
+        <Choice2<A, Choice2<B, C>>>::is_read_back(tag, mode);
+    }
+
     ghost made = { made_of_three };
 }
 
 /// The value that it holds.
-impl<A: Encode, B: Encode, C: Encode, D: Encode> EncodeDefinition for Choice4<A, B, C, D> {
+impl<A: Encode, B: Encode, C: Encode, D: Encode> EncodeParts for Choice4<A, B, C, D> {
+    ghost written = { ⟦<Choice2<A, Choice2<B, Choice2<C, D>>> as Encode>⟧ };
+
     fn give_parts<T, U: UseParts<T>>(&self, _tag: Tag, to: U, target: &mut T) -> U::Out {
         match self {
             Choice4::One(one) => to.use_alternative(one, target),
@@ -72,6 +79,10 @@ impl<A: Encode, B: Encode, C: Encode, D: Encode> EncodeDefinition for Choice4<A,
             Choice4::Three(three) => to.use_alternative(three, target),
             Choice4::Four(four) => to.use_alternative(four, target),
         }
+    }
+
+    fn are_read_back(tag: Tag, mode: Mode) {
+        <Choice2<A, Choice2<B, Choice2<C, D>>>>::is_read_back(tag, mode);
     }
 
     ghost made = { made_of_four };

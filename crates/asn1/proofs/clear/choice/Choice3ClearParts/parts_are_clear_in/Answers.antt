@@ -1,6 +1,6 @@
 use Rattle.asn1.specs.TagSets.{both_sets, either_in}
 use Rattle.asn1.proofs.ToldApart.{both_true, decides_second}
-use Rattle.asn1.proofs.clear.choice.Choice3ClearDefinition.parts_are_clear_in.Goals as goal
+use Rattle.asn1.proofs.clear.choice.Choice3ClearParts.parts_are_clear_in.Goals as goal
 
 pub returns-in-Two-clause-exact : goal.returns-in-Two-clause-exact
 returns-in-Two-clause-exact g c = λ d.
