@@ -1,12 +1,14 @@
 //! A value that may be left out, and then is the default (X.680, 25.10; X.690, 11.5).
 ghost use Rattle.std.specs.Prelude.{◌≡◌, ◌≢◌, ◌↔◌, ◌||◌, Bool, IsTrue, IfErr, IfOk, true, false};
+ghost use Rattle.std.specs.Prelude.{Some};
 ghost use Rattle.bcder.specs.declared.mode.Mode.TheVariants.{Ber};
-ghost use Rattle.bcder.specs.calls.Views.{Moved};
+ghost use Rattle.bcder.specs.calls.Cause.{IsRefusal, position_of};
+ghost use Rattle.bcder.specs.calls.Views.{of_constructed, Moved};
 ghost use Rattle.asn1.specs.Types.{TookFields};
 ghost use Rattle.asn1.specs.Defaults.{IsDefaulted};
 
 use crate::{Decode, DecodeFields, Fields, Part, Trace, Type};
-use bcder::decode::{Constructed, ContentError, DecodeError, Source};
+use bcder::decode::{Constructed, ContentError, DecodeError, Pos, Source};
 use bcder::{Mode, NoMemory};
 use std::alloc::Global;
 use std::marker::{Model, PhantomData};
@@ -78,6 +80,26 @@ fn is_left_out<T: Type, D: DefaultValue<T>>(mode: Mode, value: &T) -> bool
     }
 }
 
+/// Returns the position of the next value.
+fn next_pos<S: Source>(cons: &Constructed<'_, S>) -> Pos
+    ensures { result ≡ (of_constructed S.stream cons.now).stream.position }
+{
+    match cons.next_err(ContentError::from_static("")) {
+        DecodeError::Content { pos, .. } => pos,
+        DecodeError::Source(_) | DecodeError::NoMemory => Pos::default(),
+    }
+}
+
+/// Refuses a default that is encoded at a position, though CER and DER leave it out.
+#[cold]
+fn default_is_encoded<E>(pos: Pos) -> DecodeError<E>
+    ensures refusal { IsRefusal result }
+    ensures position { position_of result ≡ Some pos }
+{
+    let why = ContentError::from_static("a default value is encoded");
+    DecodeError::content(why, pos)
+}
+
 /// A value, or none, which means the default.
 impl<T: Type, D: DefaultValue<T>> Fields for OrDefault<T, D> {
     ghost Keys = { T.Key };
@@ -108,13 +130,13 @@ impl<S: Source, T: Decode<S>, D: DefaultValue<T>> DecodeFields<S> for OrDefault<
         path: &mut P,
     ) -> Result<OrDefault<T, D>, DecodeError<S::Error>> {
         T::values_are_one();
-        let encoded = cons.next_err(ContentError::from_static("a default value is encoded"));
+        let pos = next_pos(cons);
         match <Option<T>>::trace_fields(alloc, cons, path) {
             Ok(Some(value)) => {
                 let mode = cons.mode();
                 if is_left_out::<T, D>(mode, &value) {
                     path.note(Part::Field);
-                    return Err(encoded);
+                    return Err(default_is_encoded(pos));
                 }
                 Ok(OrDefault {
                     value,
