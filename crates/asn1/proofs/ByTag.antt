@@ -1,9 +1,9 @@
 -- Values in ascending order of their tags.
-use Rattle.std.proofs.Common.{◌≡◌, ◌≢◌, ℕ, ◌+◌, ◌<◌, ◌≤◌, List, [], ◌∷◌, map, get_or, drop, length, refl, ap, sym, ◌∙◌, subst, inl, inr, arith}
+use Rattle.std.proofs.Common.{◌≡◌, ◌≢◌, ℕ, ◌+◌, ◌<◌, ◌≤◌, List, [], ◌∷◌, ◌++◌, map, get_or, drop, length, ◌↔◌, refl, ap, sym, ◌∙◌, subst, inl, inr, arith}
 use Rattle.std.specs.Prelude.{◌⊎◌, Option, Some, IsPermutation, suc}
 use Rattle.std.specs.List.{AllByRecursion}
 use Rattle.std.proofs.lemmas.Bool.{cases_lt}
-use Rattle.std.proofs.lemmas.List.{length-drop}
+use Rattle.std.proofs.lemmas.List.{length-drop, drop_more}
 use Rattle.std.proofs.lemmas.List.Elements.{All-from_recursion, recursion_from_All}
 use Rattle.std.proofs.lemmas.List.Sorted.{All-permutation, IsPermutation-refl, IsPermutation-map, IsPermutation-sym, IsPermutation-trans}
 use Rattle.bcder.specs.declared.mode.Mode.{Mode}
@@ -17,7 +17,7 @@ use Rattle.asn1.specs.Anything.{Every, KeepsOne, KeepsValue, kept_value}
 use Rattle.asn1.specs.Sorting.{Decided, AllOf, BeforeFirst, Ascend, one_ascending}
 use Rattle.asn1.specs.Rearranging.{Lifted, lifted, same_members}
 use Rattle.asn1.specs.SetsWritten.{flat, octets_of_each}
-use Rattle.asn1.specs.Sets.{Rise, IsUpTo, each, tag_place, place_of_value, kept_place, AreOrdered, AreKeptByTag}
+use Rattle.asn1.specs.Sets.{Rise, IsUpTo, each, tag_place, place_in, place_of_value, kept_place, kept_place_in, AreOrdered, AreKeptInOrder}
 use Rattle.asn1.proofs.Members.{no_cons, cons_first, cons_rest}
 use Rattle.asn1.proofs.Kept.{value_kept}
 
@@ -69,6 +69,15 @@ module _ {E : Type 0} (f : E → ℕ) where
   pub last_rises : (es : List E) (n : ℕ) → length es ≤ n + 1 → Rise f (drop n es)
   last_rises es n h = (let l = length-drop n es in rises_short (drop n es) (omega (arith, h, l)))
 
+  -- a list rises from there on exactly if it does from the next member on, which is above that one
+  pub rises_further : (es : List E) (i j : ℕ) (d e : E) → j ≡ i + 1 → j < length es → d ≡ get_or es i d → e ≡ get_or es j e → f d < f e
+      → Rise f (drop i es) ↔ Rise f (drop j es)
+  rises_further es i j d e q l p r h =
+      let a = drop_more es i d (omega (arith, l, q)) ∙ ap (λ z. z ∷ drop (i + 1) es) (sym p) ∙ ap (λ n. d ∷ drop n es) (sym q) in
+      let b = drop_more es j e l ∙ ap (λ z. z ∷ drop (j + 1) es) (sym r) in
+      let c : drop i es ≡ d ∷ (e ∷ drop (j + 1) es) = a ∙ ap (λ z. d ∷ z) b in
+      (λ k. subst (Rise f) (sym b) (subst (Rise f) c k).1, λ k. subst (Rise f) (sym c) (h, subst (Rise f) b k))
+
   pub climbs : (es : List E) → Rise f es → Ascend (IsUpTo f) es
   climbs [] r = tt
   climbs (e ∷ []) r = (tt, tt)
@@ -108,11 +117,36 @@ unfolding trees_of
 trees_back no_trees = refl
 trees_back (t ∷ₜ ts) = ap (λ z. t ∷ₜ z) (trees_back ts)
 
+-- values that rise are the only order of them that does
+pub one_rise : (f : Tree → ℕ) (us vs : Trees) → Rise f (each us) → Rise f (each vs) → IsPermutation (each us) (each vs) → us ≡ vs
+one_rise f us vs r s p = sym (trees_back us) ∙ ap trees_of (one_rising f (each us) (each vs) r (climbs f (each vs) s) p) ∙ trees_back vs
+
 -- values have one order
-pub one_order : (mode : Mode) (ts us vs : Trees) → AreOrdered mode ts us → AreOrdered mode ts vs → us ≡ vs
-one_order mode ts us vs o p =
-    let q = IsPermutation-trans (each us) (each ts) (each vs) (IsPermutation-sym (each ts) (each us) o.rearranged) p.rearranged in
-    sym (trees_back us) ∙ ap trees_of (one_rising tag_place (each us) (each vs) o.rise (climbs tag_place (each vs) p.rise) q) ∙ trees_back vs
+pub one_order : (mode : Mode) (Place : ℕ → ℕ) (ts us vs : Trees) → AreOrdered mode Place ts us → AreOrdered mode Place ts vs → us ≡ vs
+one_order mode Place ts us vs o p =
+    one_rise (place_in Place) us vs o.rise p.rise
+    (IsPermutation-trans (each us) (each ts) (each vs) (IsPermutation-sym (each ts) (each us) o.rearranged) p.rearranged)
+
+-- ---- values that have encodings
+
+HasEncoding : Mode → Tree → Type 0
+HasEncoding mode t = (w : List ℕ) × IsEncoding mode t w
+
+each_encoded : (mode : Mode) (ts : Trees) (w : List ℕ) → AreEncodings mode ts w → AllByRecursion (HasEncoding mode) (each ts)
+unfolding HasEncoding
+each_encoded mode no_trees w e = tt
+each_encoded mode (t ∷ₜ ts) w (v, x, e, es, q) = ((v, e), each_encoded mode ts x es)
+
+all_encoded : (mode : Mode) (ts : Trees) → AllByRecursion (HasEncoding mode) (each ts) → (w : List ℕ) × AreEncodings mode ts w
+unfolding HasEncoding
+all_encoded mode no_trees h = ([], refl)
+all_encoded mode (t ∷ₜ ts) h = (let r = all_encoded mode ts h.1 in (h.0.0 ++ r.0, (h.0.0, r.0, h.0.1, r.1, refl)))
+
+-- in another order they have one, too
+pub rearranged_encode : (mode : Mode) (ts us : Trees) (w : List ℕ) → IsPermutation (each ts) (each us) → AreEncodings mode ts w
+    → (v : List ℕ) × AreEncodings mode us v
+rearranged_encode mode ts us w p e =
+    all_encoded mode us (every_shuffled (HasEncoding mode) (each ts) (each us) p (each_encoded mode ts w e))
 
 -- ---- values that are kept
 
@@ -180,31 +214,35 @@ module _ (mode : Mode) where
   same_place : (t : Tree) (k : Kept) → KeepsValue mode t k → kept_place k ≡ tag_place t
   same_place t k h = ap place_of_value (is_kept t k h)
 
-  rise_back : (ts : Trees) (ks : List Kept) → AreKept ts ks → Rise kept_place ks → Rise tag_place (each ts)
-  rise_back no_trees [] h r = tt
-  rise_back no_trees (k ∷ ks) h r = absurd h
-  rise_back (t ∷ₜ ts) [] h r = absurd h
-  rise_back (t ∷ₜ no_trees) (k ∷ []) h r = (tt, tt)
-  rise_back (t ∷ₜ no_trees) (k ∷ (l ∷ ls)) h r = absurd h.1
-  rise_back (t ∷ₜ (u ∷ₜ us)) (k ∷ []) h r = absurd h.1
-  rise_back (t ∷ₜ (u ∷ₜ us)) (k ∷ (l ∷ ls)) h r =
-      let a = same_place t k h.0 in
-      let b = same_place u l h.1.0 in
+  rise_back : (Place : ℕ → ℕ) (ts : Trees) (ks : List Kept) → AreKept ts ks → Rise (kept_place_in Place) ks → Rise (place_in Place) (each ts)
+  rise_back Place no_trees [] h r = tt
+  rise_back Place no_trees (k ∷ ks) h r = absurd h
+  rise_back Place (t ∷ₜ ts) [] h r = absurd h
+  rise_back Place (t ∷ₜ no_trees) (k ∷ []) h r = (tt, tt)
+  rise_back Place (t ∷ₜ no_trees) (k ∷ (l ∷ ls)) h r = absurd h.1
+  rise_back Place (t ∷ₜ (u ∷ₜ us)) (k ∷ []) h r = absurd h.1
+  rise_back Place (t ∷ₜ (u ∷ₜ us)) (k ∷ (l ∷ ls)) h r =
+      let a = ap Place (same_place t k h.0) in
+      let b = ap Place (same_place u l h.1.0) in
       let c = r.0 in
-      (omega (arith, a, b, c), rise_back (u ∷ₜ us) (l ∷ ls) h.1 r.1)
+      (omega (arith, a, b, c), rise_back Place (u ∷ₜ us) (l ∷ ls) h.1 r.1)
 
-  rise_on : (ts : Trees) (ks : List Kept) → AreKept ts ks → Rise tag_place (each ts) → Rise kept_place ks
-  rise_on no_trees [] h r = tt
-  rise_on no_trees (k ∷ ks) h r = absurd h
-  rise_on (t ∷ₜ ts) [] h r = absurd h
-  rise_on (t ∷ₜ no_trees) (k ∷ []) h r = (tt, tt)
-  rise_on (t ∷ₜ no_trees) (k ∷ (l ∷ ls)) h r = absurd h.1
-  rise_on (t ∷ₜ (u ∷ₜ us)) (k ∷ []) h r = absurd h.1
-  rise_on (t ∷ₜ (u ∷ₜ us)) (k ∷ (l ∷ ls)) h r =
-      let a = same_place t k h.0 in
-      let b = same_place u l h.1.0 in
+  rise_on : (Place : ℕ → ℕ) (ts : Trees) (ks : List Kept) → AreKept ts ks → Rise (place_in Place) (each ts) → Rise (kept_place_in Place) ks
+  rise_on Place no_trees [] h r = tt
+  rise_on Place no_trees (k ∷ ks) h r = absurd h
+  rise_on Place (t ∷ₜ ts) [] h r = absurd h
+  rise_on Place (t ∷ₜ no_trees) (k ∷ []) h r = (tt, tt)
+  rise_on Place (t ∷ₜ no_trees) (k ∷ (l ∷ ls)) h r = absurd h.1
+  rise_on Place (t ∷ₜ (u ∷ₜ us)) (k ∷ []) h r = absurd h.1
+  rise_on Place (t ∷ₜ (u ∷ₜ us)) (k ∷ (l ∷ ls)) h r =
+      let a = ap Place (same_place t k h.0) in
+      let b = ap Place (same_place u l h.1.0) in
       let c = r.0 in
-      (omega (arith, a, b, c), rise_on (u ∷ₜ us) (l ∷ ls) h.1 r.1)
+      (omega (arith, a, b, c), rise_on Place (u ∷ₜ us) (l ∷ ls) h.1 r.1)
+
+  -- kept values ascend by their own tags if the values do
+  pub tags_rise : (ts : Trees) (ks : List Kept) → AreKept ts ks → Rise tag_place (each ts) → Rise kept_place ks
+  tags_rise ts ks h r = rise_on (λ n. n) ts ks h r
 
   same_trees : (ts us : Trees) (ks : List Kept) → AreKept ts ks → AreKept us ks → ts ≡ us
   same_trees no_trees no_trees [] h g = refl
@@ -219,13 +257,14 @@ module _ (mode : Mode) where
 
   -- ---- kept values in order are the values in order
 
-  pub record OrderedTrees (ts : Trees) (ls : List Kept) : Type 0 where
+  pub record OrderedTrees (Place : ℕ → ℕ) (ts : Trees) (ls : List Kept) : Type 0 where
     pub trees : Trees
-    pub order : AreOrdered mode ts trees
+    pub order : AreOrdered mode Place ts trees
     pub kept : AreKept trees ls
 
-  pub ordered_trees : (ts : Trees) (ks ls : List Kept) → AreKept ts ks → AreKeptByTag mode ks ls → OrderedTrees ts ls
-  ordered_trees ts ks ls h o =
+  pub ordered_trees : (Place : ℕ → ℕ) (ts : Trees) (ks ls : List Kept) → AreKept ts ks → (mode ≡ Der → Rise kept_place ks)
+      → AreKeptInOrder mode Place ks ls → OrderedTrees Place ts ls
+  ordered_trees Place ts ks ls h d o =
       let p = subst (λ z. IsPermutation z (map kept_value ls)) (listed ts ks h) (IsPermutation-map kept_value ks ls o.rearranged) in
       let l : Lifted Some (each ts) (map kept_value ls) = lifted Some (each ts) (map kept_value ls) p in
       let k = from_list ls l.members (every_shuffled (KeepsOne mode) ks ls o.rearranged (all_keep ts ks h)) (sym l.are) in
@@ -233,47 +272,49 @@ module _ (mode : Mode) where
         trees = trees_of l.members;
         order = record {
           rearranged = subst (IsPermutation (each ts)) (sym (each_back l.members)) l.rearranged;
-          rise = rise_back (trees_of l.members) ls k o.rise;
-          in_place = λ ne. same_trees (trees_of l.members) ts ls k (subst (AreKept ts) (sym (o.in_place ne)) h);
+          rise = rise_back Place (trees_of l.members) ls k o.rise;
+          in_place = λ q. same_trees (trees_of l.members) ts ls k (subst (AreKept ts) (sym (o.in_place q)) h);
+          by_tag = λ q. rise_back (λ n. n) ts ks h (d q);
         };
         kept = k;
       }
 
-  ber_or_not : (mode ≡ Ber) ⊎ (mode ≢ Ber)
-  ber_or_not = told mode
+  cer_or_not : (mode ≡ Cer) ⊎ (mode ≢ Cer)
+  cer_or_not = told mode
     where
-      told : (m : Mode) → (m ≡ Ber) ⊎ (m ≢ Ber)
-      told Ber = inl refl
-      told Cer = inr (λ e. cc)
+      told : (m : Mode) → (m ≡ Cer) ⊎ (m ≢ Cer)
+      told Ber = inr (λ e. cc)
+      told Cer = inl refl
       told Der = inr (λ e. cc)
 
-  pub ordered_kept : (ts us : Trees) (ks : List Kept) → AreKept ts ks → AreOrdered mode ts us → (ls : List Kept) × AreKeptByTag mode ks ls
-  ordered_kept ts us ks h o = elim ber_or_not [
-    | inl q ↦ (let p = subst (λ z. IsPermutation z (map Some (each us))) (sym (listed ts ks h)) (IsPermutation-map Some (each ts) (each us) o.rearranged) in
+  pub ordered_kept : (Place : ℕ → ℕ) (ts us : Trees) (ks : List Kept) → AreKept ts ks → AreOrdered mode Place ts us
+      → (ls : List Kept) × AreKeptInOrder mode Place ks ls
+  ordered_kept Place ts us ks h o = elim cer_or_not [
+    | inr n ↦ (let p = subst (λ z. IsPermutation z (map Some (each us))) (sym (listed ts ks h)) (IsPermutation-map Some (each ts) (each us) o.rearranged) in
         let l : Lifted kept_value ks (map Some (each us)) = lifted kept_value ks (map Some (each us)) p in
         let k = from_list l.members (each us) (every_shuffled (KeepsOne mode) ks l.members l.rearranged (all_keep ts ks h)) l.are in (
           l.members,
           record {
             rearranged = l.rearranged;
-            rise = rise_on (trees_of (each us)) l.members k (subst (Rise tag_place) (sym (each_back (each us))) o.rise);
-            in_place = λ ne. absurd (ne q);
+            rise = rise_on Place (trees_of (each us)) l.members k (subst (Rise (place_in Place)) (sym (each_back (each us))) o.rise);
+            in_place = λ q. absurd (n q);
           },
         ))
-    | inr n ↦ (
+    | inl q ↦ (
       ks,
       record {
         rearranged = IsPermutation-refl ks;
-        rise = rise_on ts ks h (subst (λ z. Rise tag_place (each z)) (o.in_place n) o.rise);
-        in_place = λ ne. refl;
+        rise = rise_on Place ts ks h (subst (λ z. Rise (place_in Place) (each z)) (o.in_place q) o.rise);
+        in_place = λ e. refl;
       },
     )
   ]
 
-  -- if kept values can be put in the order of their tags, then they are in it where they don't fall
-  pub rise_if_any : (xs ys ks : List Kept) → IsPermutation xs ys → (mode ≢ Ber → ys ≡ xs) → (mode ≡ Ber → Ascend (IsUpTo kept_place) ys)
-      → AreKeptByTag mode xs ks → Rise kept_place ys
-  rise_if_any xs ys ks p same up o = elim ber_or_not [
-    | inl q ↦ subst (Rise kept_place)
-        (one_rising kept_place ks ys o.rise (up q) (IsPermutation-trans ks xs ys (IsPermutation-sym xs ks o.rearranged) p)) o.rise
-    | inr n ↦ subst (Rise kept_place) (o.in_place n ∙ sym (same n)) o.rise
+  -- if kept values can be put in the order, then they are in it where they don't fall
+  pub rise_if_any : (Place : ℕ → ℕ) (xs ys ks : List Kept) → IsPermutation xs ys → (mode ≡ Cer → ys ≡ xs)
+      → (mode ≢ Cer → Ascend (IsUpTo (kept_place_in Place)) ys) → AreKeptInOrder mode Place xs ks → Rise (kept_place_in Place) ys
+  rise_if_any Place xs ys ks p same up o = elim cer_or_not [
+    | inr n ↦ subst (Rise (kept_place_in Place))
+        (one_rising (kept_place_in Place) ks ys o.rise (up n) (IsPermutation-trans ks xs ys (IsPermutation-sym xs ks o.rearranged) p)) o.rise
+    | inl q ↦ subst (Rise (kept_place_in Place)) (o.in_place q ∙ sym (same q)) o.rise
   ]

@@ -35,6 +35,7 @@ pub mod SetsSorted
 pub mod SetsBack
 pub mod ByTag
 pub mod SetTaken
+pub mod Looking
 pub mod ToldApart
 pub mod Ascending
 pub mod DecodedBack

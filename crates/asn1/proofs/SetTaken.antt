@@ -3,7 +3,7 @@ use Rattle.std.proofs.Common.{◌≡◌, ◌≢◌, ℕ, Bool, true, false, List
 use Rattle.std.specs.Prelude.{Ok, Err, Option, Some, None}
 use Rattle.std.specs.declared.convert.Infallible.{Infallible}
 use Rattle.bcder.specs.declared.mode.Mode.{Mode}
-use Rattle.bcder.specs.declared.mode.Mode.TheVariants.{Ber}
+use Rattle.bcder.specs.declared.mode.Mode.TheVariants.{Ber, Cer, Der}
 use Rattle.bcder.specs.declared.decode.error.DecodeError.{DecodeError}
 use Rattle.bcder.specs.x690.Identifier.{Tag}
 use Rattle.bcder.specs.x690.Tree.{Tree, primitive, constructed, Trees, no_trees, ◌∷ₜ◌, ◌+++◌}
@@ -25,15 +25,15 @@ use Rattle.asn1.specs.Decoded.{AreFields, RefusesFieldsOf}
 use Rattle.asn1.specs.Decoded as decoded
 use Rattle.asn1.specs.Keys.{MeansOne, IsMeantOnce, TakeOne, AreTakenOnce}
 use Rattle.asn1.specs.SetsWritten.{flat, octets_of_each}
-use Rattle.asn1.specs.Sets.{Rise, each, tag_place, place, place_of_value, kept_place, AreOrdered, AreSet, AreKeptByTag, RefusesMembers}
+use Rattle.asn1.specs.Sets.{Rise, each, tag_place, place, place_of_value, kept_place, AreOrdered, AreSet, AreKeptInOrder, RefusesMembers}
 use Rattle.asn1.specs.Writing.{AreTaken, AreReadAs}
-use Rattle.std.proofs.lemmas.List.Sorted.{IsPermutation-refl}
+use Rattle.std.proofs.lemmas.List.Sorted.{IsPermutation-refl, IsPermutation-sym, IsPermutation-trans}
 use Rattle.asn1.proofs.Kept.{value_kept}
 use Rattle.asn1.proofs.Reading.{encoded_tag, held_once}
 use Rattle.asn1.proofs.ReadingBack.{and_none}
 use Rattle.asn1.proofs.SetsRead.{never_of_source}
 use Rattle.asn1.proofs.SetsSorted.{flat_of}
-use Rattle.asn1.proofs.ByTag.{one_order, AreKept, as_kept, kept_encode, ordered_trees, ordered_kept}
+use Rattle.asn1.proofs.ByTag.{one_rise, one_order, rearranged_encode, AreKept, as_kept, kept_encode, tags_rise, ordered_trees, ordered_kept}
 
 -- ---- the tag of a kept value
 
@@ -86,13 +86,13 @@ module _ (mode : Mode) (asked : Tag) where
         ),
       )
 
-module _ {T : Type 0} (asked : Tag) (Takes : Trees → T → Trees → Type 0) (c d : Reading) where
+module _ {T : Type 0} (asked : Tag) (Place : ℕ → ℕ) (Takes : Trees → T → Trees → Type 0) (c d : Reading) where
   -- all values can be kept
   can_keep : (ts : Trees) → HoldsValues c ts → (ks : List Kept) × AreList (Every asked) (KeepsValue c.mode) ts ks no_trees
   can_keep ts h = (let e = encoding_held c ts h in keep_each c.mode asked ts e.0 e.1)
 
   list_refused : {X : Type 0} (e : DecodeError X) → RefusesFields (AreList (Every asked) (KeepsValue c.mode)) true c e d
-      → RefusesFields (AreSet c.mode Takes) true c e d
+      → RefusesFields (AreSet c.mode Place Takes) true c e d
   list_refused e (types.RefusesFields.source s g) = types.RefusesFields.source s g
   list_refused e (types.RefusesFields.memory s l) = types.RefusesFields.memory s l
   list_refused e (types.RefusesFields.broken n a) =
@@ -107,15 +107,18 @@ module _ {T : Type 0} (asked : Tag) (Takes : Trees → T → Trees → Type 0) (
         let b = f.before no_trees (nothing_left ts h) in
         as_kept c.mode asked ts xs (subst (λ z. AreList (Every asked) (KeepsValue c.mode) z xs no_trees) (held_once c b.0 ts b.1 h) b.2)
 
-    not_in_order : ((ks : List Kept) → AreKeptByTag c.mode xs ks → ⊥) → HoldsNoFields (AreSet c.mode Takes) c
-    not_in_order n ts us y h g = (let k = ordered_kept c.mode ts g.ordered xs (all_kept ts h) g.order in n k.0 k.1)
+    not_in_order : ((ks : List Kept) → AreKeptInOrder c.mode Place xs ks → ⊥) → HoldsNoFields (AreSet c.mode Place Takes) c
+    not_in_order n ts us y h g = (let k = ordered_kept c.mode Place ts g.ordered xs (all_kept ts h) g.order in n k.0 k.1)
 
-    module _ (ys : List Kept) (o : AreKeptByTag c.mode xs ys) where
-      set_taken : (x : T) → AreFields c.mode Takes (flat (octets_of_each ys)) x → TakesFields (AreSet c.mode Takes) c x d
+    not_by_tag : c.mode ≡ Der → (Rise kept_place xs → ⊥) → HoldsNoFields (AreSet c.mode Place Takes) c
+    not_by_tag e n ts us y h g = n (tags_rise c.mode ts xs (all_kept ts h) (g.order.by_tag e))
+
+    module _ (s : c.mode ≡ Der → Rise kept_place xs) (ys : List Kept) (o : AreKeptInOrder c.mode Place xs ys) where
+      set_taken : (x : T) → AreFields c.mode Takes (flat (octets_of_each ys)) x → TakesFields (AreSet c.mode Place Takes) c x d
       set_taken x a = record {
         before = λ us h.
             let b = f.before us h in
-            let t = ordered_trees c.mode b.0 xs ys (all_kept b.0 b.1) o in
+            let t = ordered_trees c.mode Place b.0 xs ys (all_kept b.0 b.1) s o in
             let e = one_list c.mode a.trees t.trees (flat (octets_of_each ys)) a.encode (kept_encode c.mode t.trees ys t.kept) in (
               b.0,
               b.1,
@@ -129,10 +132,10 @@ module _ {T : Type 0} (asked : Tag) (Takes : Trees → T → Trees → Type 0) (
         behind = λ ts us y h g. subst (HoldsValues d) (sym g.none_left) (nothing_left ts h);
       }
 
-      no_set : ((x : T) → AreFields c.mode Takes (flat (octets_of_each ys)) x → ⊥) → HoldsNoFields (AreSet c.mode Takes) c
+      no_set : ((x : T) → AreFields c.mode Takes (flat (octets_of_each ys)) x → ⊥) → HoldsNoFields (AreSet c.mode Place Takes) c
       no_set n ts us y h g =
-          let t = ordered_trees c.mode ts xs ys (all_kept ts h) o in
-          let q = one_order c.mode ts g.ordered t.trees g.order t.order in
+          let t = ordered_trees c.mode Place ts xs ys (all_kept ts h) s o in
+          let q = one_order c.mode Place ts g.ordered t.trees g.order t.order in
           n y (record { trees = t.trees; encode = kept_encode c.mode t.trees ys t.kept; taken = subst (λ z. Takes z y no_trees) q g.taken })
 
 -- ---- what the reader says
@@ -140,15 +143,16 @@ module _ {T : Type 0} (asked : Tag) (Takes : Trees → T → Trees → Type 0) (
 abbrev Kepts : Tag → Mode → Trees → List Kept → Trees → Type 0
 Kepts asked mode = AreList (Every asked) (KeepsValue mode)
 
-abbrev IsSet : {T : Type 0} → (Mode → Trees → T → Trees → Type 0) → Mode → Trees → T → Trees → Type 0
-IsSet Takes mode = AreSet mode (Takes mode)
+abbrev IsSet : {T : Type 0} → (ℕ → ℕ) → (Mode → Trees → T → Trees → Type 0) → Mode → Trees → T → Trees → Type 0
+IsSet Place Takes mode = AreSet mode Place (Takes mode)
 
-module _ {T X : Type 0} (asked : Tag) (Takes : Mode → Trees → T → Trees → Type 0) (c d : Reading) where
-  pub keeps_none : (e : DecodeError X) → ReadsFields (Kepts asked c.mode) true c (Err e) d → ReadsFields (IsSet Takes c.mode) true c (Err e) d
+module _ {T X : Type 0} (asked : Tag) (Place : ℕ → ℕ) (Takes : Mode → Trees → T → Trees → Type 0) (c d : Reading) where
+  pub keeps_none : (e : DecodeError X) → ReadsFields (Kepts asked c.mode) true c (Err e) d
+      → ReadsFields (IsSet Place Takes c.mode) true c (Err e) d
   keeps_none e r = record {
     value = tt;
     no_fault = tt;
-    refused = list_refused asked (Takes c.mode) c d e r.refused;
+    refused = list_refused asked Place (Takes c.mode) c d e r.refused;
     mode = r.mode;
     marked = r.marked;
   }
@@ -157,23 +161,32 @@ module _ {T X : Type 0} (asked : Tag) (Takes : Mode → Trees → T → Trees �
     in_mode : m ≡ c.mode
     in_mode = q ∙ r.mode
 
-    stops : (e : DecodeError X) → RefusesFields (IsSet Takes c.mode) true c e d → ReadsFields (IsSet Takes c.mode) true c (Err e) d
+    stops : (e : DecodeError X) → RefusesFields (IsSet Place Takes c.mode) true c e d → ReadsFields (IsSet Place Takes c.mode) true c (Err e) d
     stops e f = record { value = tt; no_fault = tt; refused = f; mode = r.mode; marked = r.marked }
 
-    pub refuses_order : (e : DecodeError X) → ((ks : List Kept) → AreKeptByTag m xs ks → ⊥) → IsRefusal e → ReadsFields (IsSet Takes c.mode) true c (Err e) d
+    pub refuses_tags : (e : DecodeError X) → (m ≡ Der) × (Rise kept_place xs → ⊥) → IsRefusal e
+        → ReadsFields (IsSet Place Takes c.mode) true c (Err e) d
+    refuses_tags e n a =
+        stops e (types.RefusesFields.broken (not_by_tag asked Place (Takes c.mode) c d xs r.value (sym in_mode ∙ n.0) n.1) a)
+
+    pub refuses_order : (e : DecodeError X) → ((ks : List Kept) → AreKeptInOrder m Place xs ks → ⊥) → IsRefusal e
+        → ReadsFields (IsSet Place Takes c.mode) true c (Err e) d
     refuses_order e n a =
         stops e
         (types.RefusesFields.broken
-        (not_in_order asked (Takes c.mode) c d xs r.value (λ ks o. n ks (subst (λ z. AreKeptByTag z xs ks) (sym in_mode) o))) a)
+        (not_in_order asked Place (Takes c.mode) c d xs r.value (λ ks o. n ks (subst (λ z. AreKeptInOrder z Place xs ks) (sym in_mode) o))) a)
 
-    module _ (ys : List Kept) (o : AreKeptByTag m xs ys) where
-      ordered : AreKeptByTag c.mode xs ys
-      ordered = subst (λ z. AreKeptByTag z xs ys) in_mode o
+    module _ (s : m ≡ Der → Rise kept_place xs) (ys : List Kept) (o : AreKeptInOrder m Place xs ys) where
+      by_tag : c.mode ≡ Der → Rise kept_place xs
+      by_tag e = s (in_mode ∙ e)
 
-      pub reads_set : (x : T) → AreFields m (Takes m) (flat (octets_of_each ys)) x → ReadsFields (IsSet Takes c.mode) true {X = X} c (Ok x) d
+      ordered : AreKeptInOrder c.mode Place xs ys
+      ordered = subst (λ z. AreKeptInOrder z Place xs ys) in_mode o
+
+      pub reads_set : (x : T) → AreFields m (Takes m) (flat (octets_of_each ys)) x → ReadsFields (IsSet Place Takes c.mode) true {X = X} c (Ok x) d
       reads_set x a = record {
         value =
-            set_taken asked (Takes c.mode) c d xs r.value ys ordered x
+            set_taken asked Place (Takes c.mode) c d xs r.value by_tag ys ordered x
             (subst (λ z. AreFields z (Takes z) (flat (octets_of_each ys)) x) in_mode a);
         no_fault = r.no_fault;
         refused = tt;
@@ -181,14 +194,16 @@ module _ {T X : Type 0} (asked : Tag) (Takes : Mode → Trees → T → Trees �
         marked = r.marked;
       }
 
-      members_refused : (e : DecodeError X) → RefusesMembers m (Takes m) (flat (octets_of_each ys)) e → RefusesFields (IsSet Takes c.mode) true c e d
+      members_refused : (e : DecodeError X) → RefusesMembers m (Takes m) (flat (octets_of_each ys)) e
+          → RefusesFields (IsSet Place Takes c.mode) true c e d
       members_refused e (inl a) = types.RefusesFields.memory a refl
       members_refused e (inr a) =
           types.RefusesFields.broken
-          (no_set asked (Takes c.mode) c d xs r.value ys ordered
+          (no_set asked Place (Takes c.mode) c d xs r.value by_tag ys ordered
           (λ x b. a.0 x (subst (λ z. AreFields z (Takes z) (flat (octets_of_each ys)) x) (sym in_mode) b))) a.1
 
-      pub refuses_members : (e : DecodeError X) → RefusesMembers m (Takes m) (flat (octets_of_each ys)) e → ReadsFields (IsSet Takes c.mode) true c (Err e) d
+      pub refuses_members : (e : DecodeError X) → RefusesMembers m (Takes m) (flat (octets_of_each ys)) e
+          → ReadsFields (IsSet Place Takes c.mode) true c (Err e) d
       refuses_members e a = stops e (members_refused e a)
 
 -- ---- kept values, joined
@@ -207,39 +222,50 @@ members_converted mode Takes s e f q (decoded.RefusesFieldsOf.broken n a) = inr 
 
 -- ---- what sets are told apart by
 
-module _ {T K : Type 0} (mode : Mode) (Takes : Trees → T → Trees → Type 0) (keys : T → K) where
-  pub one_set : TakeOne Takes keys → MeansOne (AreInside (AreSet mode Takes)) keys
+module _ {T K : Type 0} (mode : Mode) (Place : ℕ → ℕ) (Takes : Trees → T → Trees → Type 0) (keys : T → K) where
+  pub one_set : TakeOne Takes keys → MeansOne (AreInside (AreSet mode Place Takes)) keys
   one_set one (primitive t w) x y h k = absurd h
   one_set one (constructed t ts) x y h k =
-      let q = one_order mode ts h.ordered k.ordered h.order k.order in
+      let q = one_order mode Place ts h.ordered k.ordered h.order k.order in
       (one k.ordered no_trees no_trees x y (subst (λ z. Takes z x no_trees) q h.taken) k.taken).0
 
-  pub set_once : mode ≢ Ber → AreTakenOnce mode Takes keys → IsMeantOnce mode Only (AreInside (AreSet mode Takes)) keys
+  -- in CER and DER the order of the fields is that of one order of values
+  one_place : mode ≢ Ber → (ts us vs : Trees) → AreOrdered mode Place ts vs → AreOrdered mode Place us vs → ts ≡ us
+  one_place ne ts us vs o p = told mode refl
+    where
+      told : (m : Mode) → mode ≡ m → ts ≡ us
+      told Ber e = absurd (ne e)
+      told Cer e = sym (o.in_place e) ∙ p.in_place e
+      told Der e =
+          one_rise tag_place ts us (o.by_tag e) (p.by_tag e)
+          (IsPermutation-trans (each ts) (each vs) (each us) o.rearranged (IsPermutation-sym (each us) (each vs) p.rearranged))
+
+  pub set_once : mode ≢ Ber → AreTakenOnce mode Takes keys → IsMeantOnce mode Only (AreInside (AreSet mode Place Takes)) keys
   set_once ne once asked (primitive t b) u x y v w d e g h i k q = absurd i
   set_once ne once asked (constructed t ts) (primitive u b) x y v w d e g h i k q = absurd k
   set_once ne once asked (constructed t ts) (constructed u us) x y v w d e g h i k q =
-      let a = subst (λ z. Takes z x no_trees) (i.order.in_place ne) i.taken in
-      let b = subst (λ z. Takes z y no_trees) (k.order.in_place ne) k.taken in
-      rw (g ∙ sym h, once ts us no_trees x y d.0 e.0 d.1 e.1 a b q) refl
+      let a = rearranged_encode mode ts i.ordered d.0 i.order.rearranged d.1 in
+      let b = rearranged_encode mode us k.ordered e.0 k.order.rearranged e.1 in
+      let s = once i.ordered k.ordered no_trees x y a.0 b.0 a.1 b.1 i.taken k.taken q in
+      rw (g ∙ sym h, one_place ne ts us k.ordered (subst (AreOrdered mode Place ts) s i.order) k.order) refl
 
   -- ---- what is written
 
-  -- fields that are written in the order of their tags are read back as a set
+  -- fields that are written in the order of a set are read back as one
   pub set_back : (x : T) (May : Trees → Type 0) (W : Meaning → Type 0) → May no_trees
-      → ((e : Encoded) → W (Ok e) → Rise tag_place (each e.values)) → AreReadAs Takes keys May x W
-      → AreReadAs (AreSet mode Takes) keys (λ us. us ≡ no_trees) x W
-  set_back x May W may rise back e w us n =
+      → ((e : Encoded) → W (Ok e) → AreOrdered mode Place e.values e.values) → AreReadAs Takes keys May x W
+      → AreReadAs (AreSet mode Place Takes) keys (λ us. us ≡ no_trees) x W
+  set_back x May W may order back e w us n =
       let t = back e w no_trees may in
-      let r : Rise tag_place (each (e.values +++ no_trees)) = subst (λ z. Rise tag_place (each z)) (sym (and_none e.values)) (rise e w) in
-      let o : AreOrdered mode (e.values +++ no_trees) (e.values +++ no_trees) =
-      record { rearranged = IsPermutation-refl (each (e.values +++ no_trees)); rise = r; in_place = λ ne. refl } in
-      subst (λ z. AreTaken (AreSet mode Takes) keys (keys x) (e.values +++ z) z) (sym n)
+      let o : AreOrdered mode Place (e.values +++ no_trees) (e.values +++ no_trees) =
+      subst (λ z. AreOrdered mode Place z z) (sym (and_none e.values)) (order e w) in
+      subst (λ z. AreTaken (AreSet mode Place Takes) keys (keys x) (e.values +++ z) z) (sym n)
       (record {
         some = t.some;
         taken = record { ordered = e.values +++ no_trees; order = o; taken = t.taken; none_left = refl };
         only = λ y vs h. (
           (t.only y no_trees
-              (subst (λ z. Takes z y no_trees) (one_order mode (e.values +++ no_trees) h.ordered (e.values +++ no_trees) h.order o) h.taken)).0,
+              (subst (λ z. Takes z y no_trees) (one_order mode Place (e.values +++ no_trees) h.ordered (e.values +++ no_trees) h.order o) h.taken)).0,
           h.none_left,
         );
       })

@@ -22,6 +22,7 @@ pub mod Sorting
 pub mod Rearranging
 pub mod SetsLaws
 pub mod Sets
+pub mod SetOrder
 pub mod Strings
 pub mod Lawfully
 pub mod EncodeOf

@@ -1,8 +1,8 @@
 -- SET: values that are told apart by their tags (X.680, 27; X.690, 8.11, 9.3, 10.3).
-use Rattle.std.specs.Prelude.{◌≡◌, ◌≢◌, ◌<◌, ◌≤◌, ◌+◌, ◌*◌, ◌⊎◌, ℕ, List, [], ◌∷◌, Option, Some, None, IsPermutation}
+use Rattle.std.specs.Prelude.{◌≡◌, ◌<◌, ◌≤◌, ◌+◌, ◌*◌, ◌⊎◌, ℕ, List, [], ◌∷◌, Option, Some, None, IsPermutation}
 use Rattle.bcder.specs.declared.decode.error.DecodeError.{DecodeError}
 use Rattle.bcder.specs.declared.mode.Mode.{Mode}
-use Rattle.bcder.specs.declared.mode.Mode.TheVariants.{Ber}
+use Rattle.bcder.specs.declared.mode.Mode.TheVariants.{Cer, Der}
 use Rattle.bcder.specs.x690.Identifier.{Class, universal, application, context_specific, private, Tag}
 use Rattle.bcder.specs.x690.Tree.{Tree, Trees, no_trees, ◌∷ₜ◌}
 use Rattle.bcder.specs.calls.Captured.{Kept}
@@ -40,17 +40,22 @@ each (t ∷ₜ ts) = t ∷ each ts
 abbrev pub tag_place : Tree → ℕ
 tag_place t = place (tag_of t)
 
--- us are the values ts in ascending order of tags, and each tag is there once: in BER ts may stand in another order (X.690, 8.11.3),
--- in CER and DER they stand in this one (9.3, 10.3)
-pub record AreOrdered (mode : Mode) (ts us : Trees) : Type 0 where
-  pub rearranged : IsPermutation (each ts) (each us)
-  pub rise : Rise tag_place (each us)
-  pub in_place : mode ≢ Ber → us ≡ ts
+-- the place of a value among those of a set, by the place that each tag has there
+abbrev pub place_in : (ℕ → ℕ) → Tree → ℕ
+place_in Place t = Place (tag_place t)
 
--- all values, which in ascending order of tags are the fields x
-pub record AreSet {T : Type 0} (mode : Mode) (Takes : Trees → T → Trees → Type 0) (ts : Trees) (x : T) (us : Trees) : Type 0 where
+-- us are the values ts in the order of the fields, and each field has one: in BER ts may stand in any order (X.690, 8.11.3), in CER
+-- they stand in this one (9.3), and in DER in that of their own tags (10.3)
+pub record AreOrdered (mode : Mode) (Place : ℕ → ℕ) (ts us : Trees) : Type 0 where
+  pub rearranged : IsPermutation (each ts) (each us)
+  pub rise : Rise (place_in Place) (each us)
+  pub in_place : mode ≡ Cer → us ≡ ts
+  pub by_tag : mode ≡ Der → Rise tag_place (each ts)
+
+-- all values, which in the order of the fields are the fields x
+pub record AreSet {T : Type 0} (mode : Mode) (Place : ℕ → ℕ) (Takes : Trees → T → Trees → Type 0) (ts : Trees) (x : T) (us : Trees) : Type 0 where
   pub ordered : Trees
-  pub order : AreOrdered mode ts ordered
+  pub order : AreOrdered mode Place ts ordered
   pub taken : Takes ordered x no_trees
   pub none_left : us ≡ no_trees
 
@@ -64,11 +69,15 @@ place_of_value None = 0
 abbrev pub kept_place : Kept → ℕ
 kept_place k = place_of_value (kept_value k)
 
--- the same of kept values
-pub record AreKeptByTag (mode : Mode) (ks ls : List Kept) : Type 0 where
+-- the same among those of a set
+abbrev pub kept_place_in : (ℕ → ℕ) → Kept → ℕ
+kept_place_in Place k = Place (kept_place k)
+
+-- ls are the kept values ks in the order of the fields, and each field has one: in CER they stand in it
+pub record AreKeptInOrder (mode : Mode) (Place : ℕ → ℕ) (ks ls : List Kept) : Type 0 where
   pub rearranged : IsPermutation ks ls
-  pub rise : Rise kept_place ls
-  pub in_place : mode ≢ Ber → ls ≡ ks
+  pub rise : Rise (kept_place_in Place) ls
+  pub in_place : mode ≡ Cer → ls ≡ ks
 
 -- why octets were not read as fields, and e was returned: memory ran out, or they are none
 abbrev pub RefusesMembers : {T X : Type 0} → Mode → (Trees → T → Trees → Type 0) → List ℕ → DecodeError X → Type 0

@@ -1,6 +1,6 @@
 -- Sets of tags, by which the values of a type are told from those of others (X.680, 25.6, 29.3).
 use Rattle.std.proofs.Common.{inl, inr}
-use Rattle.std.specs.Prelude.{◌≡◌, ◌⊎◌, Bool, true, false, not, ◌&&◌, List, [], ◌∷◌, ◌++◌, IsTrue, nat_eq, nat_lt}
+use Rattle.std.specs.Prelude.{◌≡◌, ◌⊎◌, ℕ, Bool, true, false, not, ◌&&◌, List, [], ◌∷◌, ◌++◌, IsTrue, nat_eq, nat_lt}
 use Rattle.bcder.specs.declared.mode.Mode.{Mode}
 use Rattle.bcder.specs.declared.mode.Mode.TheVariants.{Ber, Cer}
 use Rattle.bcder.specs.x690.Identifier.{Tag, Class, universal, application, context_specific, private}
@@ -83,22 +83,22 @@ are_distinct every_tag (these_tags us) = is_none us
 are_distinct (these_tags ts) every_tag = is_none ts
 are_distinct (these_tags ts) (these_tags us) = are_not_among ts us
 
--- ---- sets of which one comes before the other (X.680, 8.6)
+-- ---- sets of which one comes before the other (X.680, 8.6), by the place that each tag has in an order
 
-abbrev pub is_before_each : Tag → List Tag → Bool
-is_before_each t [] = true
-is_before_each t (u ∷ us) = nat_lt (place t) (place u) && is_before_each t us
+abbrev pub is_before_each : (ℕ → ℕ) → Tag → List Tag → Bool
+is_before_each Place t [] = true
+is_before_each Place t (u ∷ us) = nat_lt (Place (place t)) (Place (place u)) && is_before_each Place t us
 
-abbrev pub are_before_each : List Tag → List Tag → Bool
-are_before_each [] us = true
-are_before_each (t ∷ ts) us = is_before_each t us && are_before_each ts us
+abbrev pub are_before_each : (ℕ → ℕ) → List Tag → List Tag → Bool
+are_before_each Place [] us = true
+are_before_each Place (t ∷ ts) us = is_before_each Place t us && are_before_each Place ts us
 
 -- each tag of the first set comes before each of the second
-abbrev pub are_before : TagSet → TagSet → Bool
-are_before every_tag every_tag = false
-are_before every_tag (these_tags us) = is_none us
-are_before (these_tags ts) every_tag = is_none ts
-are_before (these_tags ts) (these_tags us) = are_before_each ts us
+abbrev pub are_before : (ℕ → ℕ) → TagSet → TagSet → Bool
+are_before Place every_tag every_tag = false
+are_before Place every_tag (these_tags us) = is_none us
+are_before Place (these_tags ts) every_tag = is_none ts
+are_before Place (these_tags ts) (these_tags us) = are_before_each Place ts us
 
 -- ---- values that begin with a tag of a set
 

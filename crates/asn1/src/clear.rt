@@ -1,11 +1,11 @@
 //! Types whose values are read back as they were written.
-ghost use Rattle.std.specs.Prelude.{Bool, true, false, Decides, IsTrue, Ok};
+ghost use Rattle.std.specs.Prelude.{ℕ, Bool, true, false, Decides, IsTrue, Ok};
 ghost use Rattle.bcder.specs.declared.mode.Mode.{Mode as Rules};
 ghost use Rattle.bcder.specs.x690.Identifier.{Tag as TagValue};
 ghost use Rattle.bcder.specs.x690.Tree.{Trees};
 ghost use Rattle.bcder.specs.calls.Meaning.{Encoded};
 ghost use Rattle.asn1.specs.Types.{BeginWithout};
-ghost use Rattle.asn1.specs.Sets.{Rise, each, tag_place};
+ghost use Rattle.asn1.specs.Sets.{Rise, each, place_in};
 ghost use Rattle.asn1.specs.TagSets.{TagSet, IsIn, AreIn, BeginIn, no_tag, every_tag};
 
 mod any;
@@ -71,9 +71,9 @@ pub trait ClearFields: EncodeFields {
     /// The tags of all values that are written of them. By default they may be any.
     ghost tag_set: { TagSet } = { every_tag };
 
-    /// Whether the tags of these values ascend, as those of a SET have to (X.690, 9.3, 10.3). By
-    /// default nothing is known of it.
-    ghost ascend: { Bool } = { false };
+    /// Whether these values ascend by the places of their tags, as those of a SET have to
+    /// (X.690, 9.3, 10.3). By default nothing is known of it.
+    ghost ascend: { (ℕ → ℕ) → Bool } = { λ _. false };
 
     /// Whether tags are distinct where a value could be taken for another. By default they are.
     ghost distinct: { Bool } = { true };
@@ -96,6 +96,7 @@ pub trait ClearFields: EncodeFields {
             → BeginWithout (IsIn barred_tags) us → Self.may_precede x mode us }
         ensures within { IsTrue distinct → (x : Self) → Self.is_clear x mode → (e : Encoded)
             → Self.lays x mode (Ok e) → AreIn tag_set e.values }
-        ensures rise { IsTrue distinct → IsTrue ascend → (x : Self) → Self.is_clear x mode
-            → (e : Encoded) → Self.lays x mode (Ok e) → Rise tag_place (each e.values) };
+        ensures rise { IsTrue distinct → (place : ℕ → ℕ) → IsTrue (ascend place) → (x : Self)
+            → Self.is_clear x mode → (e : Encoded) → Self.lays x mode (Ok e)
+            → Rise (place_in place) (each e.values) };
 }

@@ -28,6 +28,7 @@ mod path;
 mod sequence;
 mod set;
 mod set_of;
+mod set_order;
 mod tagged;
 mod trace;
 mod tuples;
@@ -62,6 +63,7 @@ pub use path::Path;
 pub use sequence::Sequence;
 pub use set::Set;
 pub use set_of::SetOf;
+pub use set_order::SetOrder;
 pub use tagged::{Application, Context, Explicit, Private, TagMarker};
 #[doc(hidden)]
 pub use trace::{Part, Trace};

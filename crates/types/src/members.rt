@@ -241,6 +241,223 @@ fn a_choice_stands_by_its_alternative(rt: HostRuntime) {
     takes::<Alternatives>(&rt, rt.alloc(), &ALTERNATIVES);
 }
 
+// `SET { a CHOICE { x BOOLEAN, y [3] IMPLICIT INTEGER } OPTIONAL,
+// b CHOICE { x [0] IMPLICIT INTEGER, y [2] IMPLICIT INTEGER }, c [1] IMPLICIT INTEGER }`:
+// the tags of `b` lie on both sides of that of `c`, and those of `a` on both sides of all others
+type Mixed = Set<
+    (
+        Option<Choice2<bool, Implicit<Context<3>, u8>>>,
+        Choice2<Implicit<Context<0>, u8>, Implicit<Context<2>, u8>>,
+        Implicit<Context<1>, u8>,
+    ),
+>;
+
+const MIXED: [Read; 14] = [
+    // in DER by the tags that stand there: [1], [2], [3]
+    (
+        Mode::Der,
+        &[
+            0x31, 0x09, 0x81, 0x01, 0x07, 0x82, 0x01, 0x05, 0x83, 0x01, 0x09,
+        ],
+        "Set((Some(Two(Implicit { value: 9 })), Two(Implicit { value: 5 }), \
+         Implicit { value: 7 }))",
+    ),
+    // in CER by the smallest tags of the fields: BOOLEAN, [0], [1]
+    (
+        Mode::Cer,
+        &[
+            0x31, 0x80, 0x83, 0x01, 0x09, 0x82, 0x01, 0x05, 0x81, 0x01, 0x07, 0x00, 0x00,
+        ],
+        "Set((Some(Two(Implicit { value: 9 })), Two(Implicit { value: 5 }), \
+         Implicit { value: 7 }))",
+    ),
+    // in BER in any order
+    (
+        Mode::Ber,
+        &[
+            0x31, 0x09, 0x82, 0x01, 0x05, 0x83, 0x01, 0x09, 0x81, 0x01, 0x07,
+        ],
+        "Set((Some(Two(Implicit { value: 9 })), Two(Implicit { value: 5 }), \
+         Implicit { value: 7 }))",
+    ),
+    // the order of CER in DER, and that of DER in CER
+    (
+        Mode::Der,
+        &[
+            0x31, 0x09, 0x83, 0x01, 0x09, 0x82, 0x01, 0x05, 0x81, 0x01, 0x07,
+        ],
+        "refused",
+    ),
+    (
+        Mode::Cer,
+        &[
+            0x31, 0x80, 0x81, 0x01, 0x07, 0x82, 0x01, 0x05, 0x83, 0x01, 0x09, 0x00, 0x00,
+        ],
+        "refused",
+    ),
+    // the smallest tags stand there, so both orders are the same
+    (
+        Mode::Der,
+        &[
+            0x31, 0x09, 0x01, 0x01, 0xFF, 0x80, 0x01, 0x05, 0x81, 0x01, 0x07,
+        ],
+        "Set((Some(One(true)), One(Implicit { value: 5 }), Implicit { value: 7 }))",
+    ),
+    (
+        Mode::Cer,
+        &[
+            0x31, 0x80, 0x01, 0x01, 0xFF, 0x80, 0x01, 0x05, 0x81, 0x01, 0x07, 0x00, 0x00,
+        ],
+        "Set((Some(One(true)), One(Implicit { value: 5 }), Implicit { value: 7 }))",
+    ),
+    // without the first field
+    (
+        Mode::Der,
+        &[0x31, 0x06, 0x81, 0x01, 0x07, 0x82, 0x01, 0x05],
+        "Set((None, Two(Implicit { value: 5 }), Implicit { value: 7 }))",
+    ),
+    (
+        Mode::Cer,
+        &[0x31, 0x80, 0x82, 0x01, 0x05, 0x81, 0x01, 0x07, 0x00, 0x00],
+        "Set((None, Two(Implicit { value: 5 }), Implicit { value: 7 }))",
+    ),
+    (
+        Mode::Cer,
+        &[0x31, 0x80, 0x81, 0x01, 0x07, 0x82, 0x01, 0x05, 0x00, 0x00],
+        "refused",
+    ),
+    // both alternatives of a field
+    (
+        Mode::Ber,
+        &[
+            0x31, 0x09, 0x80, 0x01, 0x05, 0x81, 0x01, 0x07, 0x82, 0x01, 0x05,
+        ],
+        "refused",
+    ),
+    (
+        Mode::Der,
+        &[
+            0x31, 0x09, 0x80, 0x01, 0x05, 0x81, 0x01, 0x07, 0x82, 0x01, 0x05,
+        ],
+        "refused",
+    ),
+    // a value is missing, or has no field
+    (
+        Mode::Ber,
+        &[0x31, 0x06, 0x83, 0x01, 0x09, 0x81, 0x01, 0x07],
+        "refused",
+    ),
+    (
+        Mode::Ber,
+        &[
+            0x31, 0x0C, 0x82, 0x01, 0x05, 0x81, 0x01, 0x07, 0x84, 0x01, 0x01, 0x83, 0x01, 0x09,
+        ],
+        "refused",
+    ),
+];
+
+// in BER and CER the fields are written in their order, as in DER if their tags ascend
+const MIXED_WRITTEN: [Written; 3] = [
+    (
+        &[
+            0x31, 0x09, 0x82, 0x01, 0x05, 0x81, 0x01, 0x07, 0x83, 0x01, 0x09,
+        ],
+        Mode::Cer,
+        &[
+            0x31, 0x80, 0x83, 0x01, 0x09, 0x82, 0x01, 0x05, 0x81, 0x01, 0x07, 0x00, 0x00,
+        ],
+    ),
+    (
+        &[
+            0x31, 0x09, 0x81, 0x01, 0x07, 0x82, 0x01, 0x05, 0x83, 0x01, 0x09,
+        ],
+        Mode::Ber,
+        &[
+            0x31, 0x09, 0x83, 0x01, 0x09, 0x82, 0x01, 0x05, 0x81, 0x01, 0x07,
+        ],
+    ),
+    (
+        &[
+            0x31, 0x09, 0x81, 0x01, 0x07, 0x80, 0x01, 0x05, 0x01, 0x01, 0x01,
+        ],
+        Mode::Der,
+        &[
+            0x31, 0x09, 0x01, 0x01, 0xFF, 0x80, 0x01, 0x05, 0x81, 0x01, 0x07,
+        ],
+    ),
+];
+
+#[test]
+fn a_choice_stands_on_both_sides(rt: HostRuntime) {
+    takes_and_rewrites::<Mixed>(&rt, rt.alloc(), &MIXED, &MIXED_WRITTEN);
+}
+
+// the example of X.690, 9.3, with implicit tags, in the order `e`, `b`, `a`:
+// `SET { a [3] INTEGER, b [1] CHOICE { c [2] INTEGER, d [4] INTEGER }, e CHOICE { f CHOICE { g [5]
+// INTEGER, h [6] INTEGER }, i CHOICE { j [0] INTEGER } } }`
+type Example = Set<
+    (
+        Choice2<
+            Choice2<Implicit<Context<5>, u8>, Implicit<Context<6>, u8>>,
+            Implicit<Context<0>, u8>,
+        >,
+        Explicit<Context<1>, Choice2<Implicit<Context<2>, u8>, Implicit<Context<4>, u8>>>,
+        Implicit<Context<3>, u8>,
+    ),
+>;
+
+const EXAMPLE: [Read; 5] = [
+    // in CER always in this order
+    (
+        Mode::Cer,
+        &[
+            0x31, 0x80, 0x85, 0x01, 0x01, 0xA1, 0x80, 0x82, 0x01, 0x02, 0x00, 0x00, 0x83, 0x01,
+            0x03, 0x00, 0x00,
+        ],
+        "Set((One(One(Implicit { value: 1 })), Explicit { value: One(Implicit { value: 2 }) }, \
+         Implicit { value: 3 }))",
+    ),
+    (
+        Mode::Cer,
+        &[
+            0x31, 0x80, 0x86, 0x01, 0x01, 0xA1, 0x80, 0x84, 0x01, 0x04, 0x00, 0x00, 0x83, 0x01,
+            0x03, 0x00, 0x00,
+        ],
+        "Set((One(Two(Implicit { value: 1 })), Explicit { value: Two(Implicit { value: 4 }) }, \
+         Implicit { value: 3 }))",
+    ),
+    (
+        Mode::Cer,
+        &[
+            0x31, 0x80, 0xA1, 0x80, 0x82, 0x01, 0x02, 0x00, 0x00, 0x83, 0x01, 0x03, 0x85, 0x01,
+            0x01, 0x00, 0x00,
+        ],
+        "refused",
+    ),
+    // in DER by the tag of the alternative (10.3)
+    (
+        Mode::Der,
+        &[
+            0x31, 0x0B, 0xA1, 0x03, 0x82, 0x01, 0x02, 0x83, 0x01, 0x03, 0x85, 0x01, 0x01,
+        ],
+        "Set((One(One(Implicit { value: 1 })), Explicit { value: One(Implicit { value: 2 }) }, \
+         Implicit { value: 3 }))",
+    ),
+    (
+        Mode::Der,
+        &[
+            0x31, 0x0B, 0x80, 0x01, 0x01, 0xA1, 0x03, 0x82, 0x01, 0x02, 0x83, 0x01, 0x03,
+        ],
+        "Set((Two(Implicit { value: 1 }), Explicit { value: One(Implicit { value: 2 }) }, \
+         Implicit { value: 3 }))",
+    ),
+];
+
+#[test]
+fn the_smallest_tag_of_a_choice_counts(rt: HostRuntime) {
+    takes::<Example>(&rt, rt.alloc(), &EXAMPLE);
+}
+
 /// 1.
 #[derive(Debug)]
 struct One;

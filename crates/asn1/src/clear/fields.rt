@@ -31,7 +31,7 @@ impl<T: Clear> ClearFields for T {
 
     ghost tag_set = { T.tag_set };
 
-    ghost ascend = { true };
+    ghost ascend = { λ _. true };
 
     ghost distinct = { T.distinct };
 
@@ -56,7 +56,7 @@ impl<T: Clear> ClearFields for Option<T> {
 
     ghost tag_set = { T.tag_set };
 
-    ghost ascend = { true };
+    ghost ascend = { λ _. true };
 
     ghost distinct = { T.distinct };
 
@@ -84,7 +84,7 @@ impl<T: Clear, D: DefaultValue<T>> ClearFields for OrDefault<T, D> {
 
     ghost tag_set = { T.tag_set };
 
-    ghost ascend = { true };
+    ghost ascend = { λ _. true };
 
     ghost distinct = { T.distinct };
 
@@ -109,7 +109,7 @@ impl ClearFields for ExtensionAdditions {
 
     ghost tag_set = { no_tag };
 
-    ghost ascend = { true };
+    ghost ascend = { λ _. true };
 
     fn are_clear_in(&self, _mode: Mode) -> bool {
         true
@@ -130,7 +130,8 @@ impl<A: ClearFields, B: ClearFields> ClearFields for (A, B) {
 
     ghost tag_set = { both_sets A.tag_set B.tag_set };
 
-    ghost ascend = { A.ascend && (B.ascend && are_before A.tag_set B.tag_set) };
+    ghost ascend = { λ place. A.ascend place
+        && (B.ascend place && are_before place A.tag_set B.tag_set) };
 
     ghost distinct = { A.distinct && (B.distinct && are_distinct A.barred_tags B.first_tags) };
 

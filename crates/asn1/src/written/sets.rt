@@ -8,10 +8,10 @@ ghost use Rattle.bcder.specs.calls.Encoders.{WritesValues};
 ghost use Rattle.bcder.specs.laws.Meanings.{constructed_lawful};
 ghost use Rattle.asn1.specs.SetsWritten.{WritesSetOf, AreKeptInOrder, MayLackForSet};
 ghost use Rattle.asn1.specs.SetsLaws.{set_lawful};
-ghost use Rattle.asn1.specs.Sets.{Rise, each, tag_place};
+ghost use Rattle.asn1.specs.Sets.{AreOrdered};
 
 use crate::writers::{ByRef, Encode, EncodeFields};
-use crate::{Set, SetOf, Type};
+use crate::{Set, SetOf, SetOrder, Type};
 use bcder::encode::{EncodeError, Values, WriteError, sequence_as};
 use bcder::{Captured, Mode, Tag};
 use std::alloc::Global;
@@ -123,14 +123,15 @@ impl<T: Encode> Encode for SetOf<T> {
 }
 
 /// A SET of fields, in their order. It is read back if that is the order of their tags.
-impl<F: EncodeFields> Encode for Set<F> {
+impl<F: EncodeFields + SetOrder> Encode for Set<F> {
     ghost writes = { λ tag x mode.
         ValueMeans tag (constructed_meaning tag mode) (F.lays x mode) };
 
     ghost may_lack = { λ x mode. F.may_lack x mode };
 
     ghost is_clear = { λ x mode. F.is_clear x mode × F.may_precede x mode no_trees
-        × ((e : Encoded) → F.lays x mode (Ok e) → Rise tag_place (each e.values)) };
+        × ((e : Encoded) → F.lays x mode (Ok e)
+        → AreOrdered mode F.place e.values e.values) };
 
     fn encoded_len_as(&self, tag: Tag, mode: Mode) -> Result<usize, EncodeError> {
         sequence_as(tag, ByRef(&self.0)).encoded_len(mode)

@@ -24,9 +24,9 @@ returns-clause-within g c = λ d x k e m.
     (written_in_order (g.T.Type.tags g.T.Type.TAG) Means g.T.Clear.tag_set g.met.T.Clear.in_set g.T.Type.key (g.T.Type.key x) e (read e m)).within
 
 pub returns-clause-rise : goal.returns-clause-rise
-returns-clause-rise g c = λ d a x k e m.
+returns-clause-rise g c = λ d place a x k e m.
     let mode = c.args.mode in
     let Means = g.T.Type.means mode in
     let read =
     subst (λ t. IsReadAs (g.T.Type.tags t) Means g.T.Type.key x (g.T.Encode.writes t x mode)) c.tag.ensures (c.is_read_back.ensures x k) in
-    (written_in_order (g.T.Type.tags g.T.Type.TAG) Means g.T.Clear.tag_set g.met.T.Clear.in_set g.T.Type.key (g.T.Type.key x) e (read e m)).rise
+    (written_in_order (g.T.Type.tags g.T.Type.TAG) Means g.T.Clear.tag_set g.met.T.Clear.in_set g.T.Type.key (g.T.Type.key x) e (read e m)).rise place

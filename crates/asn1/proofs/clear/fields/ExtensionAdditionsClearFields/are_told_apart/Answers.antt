@@ -13,4 +13,4 @@ pub returns-clause-within : goal.returns-clause-within
 returns-clause-within c = λ d x k e m. (nothing_in_order no_tag e m).within
 
 pub returns-clause-rise : goal.returns-clause-rise
-returns-clause-rise c = λ d a x k e m. (nothing_in_order no_tag e m).rise
+returns-clause-rise c = λ d place a x k e m. (nothing_in_order no_tag e m).rise place

@@ -33,7 +33,7 @@ returns-clause-within g c = λ d x k e m.
     (g.T.Encode.writes g.T.Type.TAG x mode) (one x k) e m).within
 
 pub returns-clause-rise : goal.returns-clause-rise
-returns-clause-rise g c = λ d a x k e m.
+returns-clause-rise g c = λ d place a x k e m.
     let mode = c.args.mode in
     let Tags = g.T.Type.tags g.T.Type.TAG in
     let Means = g.T.Type.means mode in
@@ -42,4 +42,4 @@ returns-clause-rise g c = λ d a x k e m.
     subst (λ t. (x : g.row.T.Denot) → Clear x → IsReadAs (g.T.Type.tags t) Means g.T.Type.key x (g.T.Encode.writes t x mode)) c.tag.ensures
     c.is_read_back.ensures in
     (default_in_order Tags Means g.T.Clear.tag_set g.met.T.Clear.in_set g.T.Type.key (g.T.Type.key x) (g.T.Type.key x ≡ g.T.Type.key g.D.DefaultValue.default)
-    (g.T.Encode.writes g.T.Type.TAG x mode) (one x k) e m).rise
+    (g.T.Encode.writes g.T.Type.TAG x mode) (one x k) e m).rise place

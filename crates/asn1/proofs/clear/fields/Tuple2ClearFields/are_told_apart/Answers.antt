@@ -28,12 +28,12 @@ returns-clause-within g c = λ d x k.
     (c.are_told_apart.ensures.within p.0 x.0 k.0) (c.are_told_apart-2.ensures.within q.0 x.1 k.1)
 
 pub returns-clause-rise : goal.returns-clause-rise
-returns-clause-rise g c = λ d a x k.
+returns-clause-rise g c = λ d place a x k.
     let mode = c.args.mode in
     let p = both_true _ _ d in
     let q = both_true _ _ p.1 in
     let s = both_true _ _ a in
     let r = both_true _ _ s.1 in
-    both_rise (g.A.EncodeFields.lays x.0 mode) (g.B.EncodeFields.lays x.1 mode) g.A.ClearFields.tag_set g.B.ClearFields.tag_set r.1
-    (c.are_told_apart.ensures.within p.0 x.0 k.0) (c.are_told_apart-2.ensures.within q.0 x.1 k.1) (c.are_told_apart.ensures.rise p.0 s.0 x.0 k.0)
-    (c.are_told_apart-2.ensures.rise q.0 r.0 x.1 k.1)
+    both_rise (g.A.EncodeFields.lays x.0 mode) (g.B.EncodeFields.lays x.1 mode) g.A.ClearFields.tag_set g.B.ClearFields.tag_set place r.1
+    (c.are_told_apart.ensures.within p.0 x.0 k.0) (c.are_told_apart-2.ensures.within q.0 x.1 k.1) (c.are_told_apart.ensures.rise p.0 place s.0 x.0 k.0)
+    (c.are_told_apart-2.ensures.rise q.0 place r.0 x.1 k.1)

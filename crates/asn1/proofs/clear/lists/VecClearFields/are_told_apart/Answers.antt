@@ -21,4 +21,4 @@ pub returns-clause-within : goal.returns-clause-within
 returns-clause-within g c = λ d x k e m. any_in e.values
 
 pub returns-clause-rise : goal.returns-clause-rise
-returns-clause-rise g c = λ d a x k e m. cc
+returns-clause-rise g c = λ d place a x k e m. cc

@@ -12,4 +12,4 @@ pub returns-clause-within : goal.returns-clause-within
 returns-clause-within g c = λ d x k e m. c.are_told_apart.ensures.within d (first_of_7 x) k e (behind_as_last _ _ e m)
 
 pub returns-clause-rise : goal.returns-clause-rise
-returns-clause-rise g c = λ d a x k e m. c.are_told_apart.ensures.rise d a (first_of_7 x) k e (behind_as_last _ _ e m)
+returns-clause-rise g c = λ d place a x k e m. c.are_told_apart.ensures.rise d place a (first_of_7 x) k e (behind_as_last _ _ e m)
