@@ -1,6 +1,6 @@
 -- The parts that are expected, looked at one after the other.
-use Rattle.std.proofs.Common.{◌≡◌, ℕ, Bool, ◌||◌, List, [], ◌∷◌, refl, ap, sym, ◌∙◌, subst}
-use Rattle.std.specs.Prelude.{true, false, nat_eq, min, if◌then◌else◌}
+use Rattle.std.proofs.Common.{◌≡◌, ℕ, Bool, ◌||◌, List, [], ◌∷◌, refl, ap, sym, ◌∙◌}
+use Rattle.std.specs.Prelude.{true, false, nat_eq, if◌then◌else◌}
 use Rattle.asn1.specs.declared.trace.Part.{Part}
 use Rattle.asn1.specs.declared.trace.Part.TheVariants.{Expected}
 use Rattle.asn1.specs.declared.trace.Part.TheVariants as part

@@ -27,7 +27,7 @@ use Rattle.asn1.specs.Keys.{MeansOne, IsMeantOnce, TakeOne, AreTakenOnce}
 use Rattle.asn1.specs.SetsWritten.{flat, octets_of_each}
 use Rattle.asn1.specs.Sets.{Rise, each, tag_place, place, place_of_value, kept_place, AreOrdered, AreSet, AreKeptInOrder, RefusesMembers}
 use Rattle.asn1.specs.Writing.{AreTaken, AreReadAs}
-use Rattle.std.proofs.lemmas.List.Sorted.{IsPermutation-refl, IsPermutation-sym, IsPermutation-trans}
+use Rattle.std.proofs.lemmas.List.Sorted.{IsPermutation-sym, IsPermutation-trans}
 use Rattle.asn1.proofs.Kept.{value_kept}
 use Rattle.asn1.proofs.Reading.{encoded_tag, held_once}
 use Rattle.asn1.proofs.ReadingBack.{and_none}

@@ -53,7 +53,8 @@ pub record AreOrdered (mode : Mode) (Place : ℕ → ℕ) (ts us : Trees) : Type
   pub by_tag : mode ≡ Der → Rise tag_place (each ts)
 
 -- all values, which in the order of the fields are the fields x
-pub record AreSet {T : Type 0} (mode : Mode) (Place : ℕ → ℕ) (Takes : Trees → T → Trees → Type 0) (ts : Trees) (x : T) (us : Trees) : Type 0 where
+pub record AreSet {T : Type 0} (mode : Mode) (Place : ℕ → ℕ) (Takes : Trees → T → Trees → Type 0) (ts : Trees) (x : T)
+    (us : Trees) : Type 0 where
   pub ordered : Trees
   pub order : AreOrdered mode Place ts ordered
   pub taken : Takes ordered x no_trees

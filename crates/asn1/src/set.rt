@@ -127,8 +127,8 @@ fn sort<O: SetOrder>(mode: Mode, values: &mut Vec<Any>)
     }
 }
 
-/// Puts values in an order, if they may stand in another one. Returns whether they ascend then, each
-/// field's once.
+/// Puts values in an order, if they may stand in another one. Returns whether they ascend then,
+/// each field's once.
 fn put_in_order<O: SetOrder>(mode: Mode, values: &mut Vec<Any>) -> bool
     ensures yes { result ≡ true
         → AreKeptInOrder mode O.place values.old.items values.new.items }

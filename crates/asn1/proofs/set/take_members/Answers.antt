@@ -1,4 +1,4 @@
-use Rattle.std.proofs.Common.{◌≡◌, ◌≢◌, true, false, rules, subst}
+use Rattle.std.proofs.Common.{◌≡◌, true, false, rules, subst}
 use Rattle.bcder.specs.x690.Identifier.{null_tag}
 use Rattle.bcder.specs.declared.mode.Mode.TheVariants.{Der}
 use Rattle.bcder.specs.calls.Views.{of_constructed}

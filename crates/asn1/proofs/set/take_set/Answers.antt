@@ -7,7 +7,8 @@ use Rattle.asn1.proofs.set.take_set.Goals as goal
 
 pub returns-clause-took : goal.returns-clause-took
 returns-clause-took g c =
-    next_inside (of_constructed g.S.Source.stream) _ c.args.tag (λ mode. AreSet mode g.F.SetOrder.place (g.F.Fields.takes mode)) true (constructed_is_not_octets g.S.Source.stream)
+    next_inside (of_constructed g.S.Source.stream) _ c.args.tag (λ mode. AreSet mode g.F.SetOrder.place (g.F.Fields.takes mode)) true
+    (constructed_is_not_octets g.S.Source.stream)
     (constructed_is_within_owed g.S.Source.stream g.met.S.Source.sound) (λ t p r q x. search rules)
     (of_constructed g.S.Source.stream c.args.cons.now) (of_constructed g.S.Source.stream c.take_opt_constructed_if.new.self)
     (constructed_is_within_owed g.S.Source.stream g.met.S.Source.sound c.args.cons.now) c.take_opt_constructed_if.result c.take_opt_constructed_if.ensures.took
