@@ -40,3 +40,5 @@ pub mod ToldApart
 pub mod Ascending
 pub mod DecodedBack
 pub mod Lawful
+pub mod Narrowed
+pub mod Numbered

@@ -28,3 +28,4 @@ pub mod Lawfully
 pub mod EncodeOf
 pub mod ClearOf
 pub mod Memory
+pub mod Enumerations

@@ -13,6 +13,7 @@ mod bit_strings;
 mod boxed;
 mod choice;
 mod definition;
+mod enumerated;
 mod fields;
 mod identifiers;
 mod leaf;

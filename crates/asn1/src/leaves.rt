@@ -2,6 +2,7 @@
 
 mod bit_strings;
 mod characters;
+mod enumerated;
 mod identifiers;
 mod integers;
 mod numbers;
@@ -9,3 +10,4 @@ mod octet_strings;
 mod plain;
 
 pub use characters::TaggedCharSet;
+pub use enumerated::{Enumerated, Enumeration};

@@ -14,6 +14,7 @@ mod bit_strings;
 mod boxed;
 mod choice;
 mod default;
+mod enumerated;
 mod identifiers;
 mod lists;
 mod numbers;
