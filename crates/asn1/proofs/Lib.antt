@@ -42,3 +42,4 @@ pub mod DecodedBack
 pub mod Lawful
 pub mod Narrowed
 pub mod Numbered
+pub mod Spelled

@@ -29,3 +29,5 @@ pub mod EncodeOf
 pub mod ClearOf
 pub mod Memory
 pub mod Enumerations
+pub mod CharacterSets
+pub mod CharacterLaws

@@ -8,6 +8,7 @@
 mod additions;
 mod any;
 mod boxed;
+mod char_sets;
 mod choice;
 mod clear;
 mod default;
@@ -41,6 +42,11 @@ mod written;
 
 pub use additions::ExtensionAdditions;
 pub use any::Any;
+pub use char_sets::{
+    BmpCharSet, BmpString, BmpStringRef, GeneralString, GeneralStringRef, GeneralTag,
+    RegisteredTag, TeletexString, TeletexStringRef, TeletexTag, UniversalCharSet, UniversalString,
+    UniversalStringRef, VisibleCharSet, VisibleString, VisibleStringRef,
+};
 pub use choice::{Choice2, Choice3, Choice4};
 pub use clear::{Clear, ClearContents, ClearDefinition, ClearFields, ClearParts};
 pub use default::{DefaultValue, OrDefault};
