@@ -31,3 +31,4 @@ pub mod Memory
 pub mod Enumerations
 pub mod CharacterSets
 pub mod CharacterLaws
+pub mod RelativeIdentifiers

@@ -30,6 +30,7 @@ mod tuples;
 use crate::writers::{Encode, EncodeFields};
 use bcder::Mode;
 pub use definition::ClearDefinition;
+pub(crate) use identifiers::is_complete;
 pub use leaf::ClearContents;
 pub use parts::ClearParts;
 

@@ -9,7 +9,7 @@ use bcder::{Mode, Oid};
 use std::convert::AsSlice;
 
 /// Returns whether octets end with a subidentifier.
-fn is_complete(octets: &[u8]) -> bool
+pub(crate) fn is_complete(octets: &[u8]) -> bool
     ensures { IsTrue result ↔ IsComplete octets.now }
 {
     match octets {
