@@ -43,3 +43,5 @@ pub mod Lawful
 pub mod Narrowed
 pub mod Numbered
 pub mod Spelled
+pub mod Trimmed
+pub mod NamedBack

@@ -31,4 +31,5 @@ pub mod Memory
 pub mod Enumerations
 pub mod CharacterSets
 pub mod CharacterLaws
+pub mod NamedBitLists
 pub mod RelativeIdentifiers

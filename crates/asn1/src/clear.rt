@@ -19,6 +19,7 @@ mod identifiers;
 mod leaf;
 mod lent;
 mod lists;
+mod named_bits;
 mod numbers;
 mod parts;
 mod plain;
@@ -29,6 +30,7 @@ mod tuples;
 
 use crate::writers::{Encode, EncodeFields};
 use bcder::Mode;
+pub(crate) use bit_strings::see_bits;
 pub use definition::ClearDefinition;
 pub(crate) use identifiers::is_complete;
 pub use leaf::ClearContents;

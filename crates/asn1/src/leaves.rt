@@ -5,9 +5,12 @@ mod characters;
 mod enumerated;
 mod identifiers;
 mod integers;
+mod named_bits;
 mod numbers;
 mod octet_strings;
 mod plain;
 
 pub use characters::TaggedCharSet;
 pub use enumerated::{Enumerated, Enumeration};
+pub use named_bits::NamedBits;
+pub(crate) use named_bits::named_len;

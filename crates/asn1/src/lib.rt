@@ -57,7 +57,7 @@ pub use fields::{DecodeFields, Fields};
 pub use implicit::{FixedTag, Implicit};
 pub use leaf::{FromContents, Leaf};
 pub use leaf_written::ToContents;
-pub use leaves::{Enumerated, Enumeration, TaggedCharSet};
+pub use leaves::{Enumerated, Enumeration, NamedBits, TaggedCharSet};
 pub use lent::{
     Ia5StringRef, NumericStringRef, OctetStringRef, PrintableStringRef, RestrictedStringRef,
     Utf8StringRef,

@@ -17,6 +17,7 @@ mod default;
 mod enumerated;
 mod identifiers;
 mod lists;
+mod named_bits;
 mod numbers;
 mod plain;
 mod sets;

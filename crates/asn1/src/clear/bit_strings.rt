@@ -27,7 +27,7 @@ fn is_cleared(unused: u8, octets: &[u8]) -> bool
 }
 
 /// A bit string has seven unused bits at most, and none without octets.
-fn see_bits(bits: &BitString)
+pub(crate) fn see_bits(bits: &BitString)
     ensures { IsBits bits.now }
 {
     a_bit_string_is_read_back(bits, Mode::Ber);
