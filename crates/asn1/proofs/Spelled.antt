@@ -1,5 +1,5 @@
 -- Octets of characters, one after the other.
-use Rattle.std.proofs.Common.{◌≡◌, ◌≢◌, ◌↔◌, ℕ, zero, suc, ◌+◌, ◌*◌, ◌/◌, ◌%◌, ◌<◌, List, [], ◌∷◌, ◌++◌, length, get_or, Bool, true, false, refl, sym, ap, ◌∙◌}
+use Rattle.std.proofs.Common.{◌≡◌, ◌↔◌, ℕ, zero, suc, ◌+◌, ◌*◌, ◌/◌, ◌%◌, ◌<◌, List, [], ◌∷◌, ◌++◌, length, get_or, Bool, true, false, refl, sym, ap, ◌∙◌}
 use Rattle.std.proofs.Common.{subst, arith, Some, None, ◌≤◌, take}
 use Rattle.std.proofs.Math.Seq.{take-length}
 use Rattle.std.specs.List.{list_all}
@@ -12,9 +12,9 @@ use Rattle.std.specs.Char.{IsScalar}
 use Rattle.std.specs.Str.{IsUtf8, IsAscii, IsNotAscii, chars, encode_utf8_all, all_scalars}
 use Rattle.bcder.specs.x690.AsciiSets.{one_octet_step}
 use Rattle.bcder.specs.x690.CharSet.{Front, Step, Spells, IsOfSet, HasNo}
-use Rattle.bcder.specs.laws.CharSets.{AllHave, self_spelled, one_octet_taken, spells_text, all_ascii}
-use Rattle.asn1.specs.CharacterSets.{is_visible, is_cell, cell_octets, cell_step, is_code_point, number_of_four, code_point_octets, code_point_step, each_octets}
-use Rattle.asn1.specs.CharacterLaws.{visible_ascii, cell_read, code_point_read}
+use Rattle.bcder.specs.laws.CharSets.{AllHave, self_spelled, spells_text, all_ascii}
+use Rattle.asn1.specs.CharacterSets.{is_cell, cell_octets, cell_step, is_code_point, number_of_four, code_point_octets, code_point_step, each_octets}
+use Rattle.asn1.specs.CharacterLaws.{cell_read}
 
 -- ---- characters that have their number in a set, each as its octets
 

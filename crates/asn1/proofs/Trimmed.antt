@@ -1,11 +1,11 @@
 -- Bits without the zero bits at their end.
-use Rattle.std.proofs.Common.{◌≡◌, ◌≢◌, ◌↔◌, ℕ, suc, zero, ◌+◌, ◌-◌, ◌*◌, ◌/◌, ◌%◌, ◌<◌, ◌≤◌, Bool, true, false, List, [], ◌∷◌, length, take, get_or}
+use Rattle.std.proofs.Common.{◌≡◌, ◌≢◌, ◌↔◌, ℕ, suc, zero, ◌+◌, ◌-◌, ◌*◌, ◌/◌, ◌<◌, ◌≤◌, Bool, true, false, List, [], ◌∷◌, length, take, get_or}
 use Rattle.std.proofs.Common.{refl, sym, ap, subst, ◌∙◌, arith}
 use Rattle.std.proofs.lemmas.List.{length-take-le}
 use Rattle.std.proofs.lemmas.Bool.Decides.{nat_tests}
 use Rattle.std.specs.Prelude.{IsTrue, nat_eq}
 use Rattle.bcder.specs.x690.BitString.{Bits, IsBits, octet_bits, bits}
-use Rattle.bcder.proofs.Bits.{octet_bits_length, bits_length}
+use Rattle.bcder.proofs.Bits.{bits_length}
 use Rattle.asn1.specs.NamedBitLists.{before_others, trimmed, named_bits, IsTrimmed, first_bits, without_zeros}
 
 before_twice : (b : Bool) (bs : List Bool) → trimmed bs ≡ bs → trimmed (before_others b bs) ≡ before_others b bs

@@ -1,8 +1,8 @@
 -- Bit strings whose bits have names (ITU-T X.680, 22.7; X.690, 11.2.2).
-use Rattle.std.specs.Prelude.{◌≡◌, ℕ, ◌+◌, ◌-◌, ◌*◌, ◌/◌, ⊤, Bool, true, false, List, [], ◌∷◌, length, take}
+use Rattle.std.specs.Prelude.{◌≡◌, ℕ, ◌+◌, ◌-◌, ◌*◌, ◌/◌, ⊤, Bool, false, List, [], ◌∷◌, length, take}
 use Rattle.bcder.specs.declared.mode.Mode.{Mode}
 use Rattle.bcder.specs.declared.mode.Mode.TheVariants.{Ber, Cer, Der}
-use Rattle.bcder.specs.x690.BitString.{Bits, IsBits, bits, IsBitString}
+use Rattle.bcder.specs.x690.BitString.{Bits, bits, IsBitString}
 
 -- a bit before others, or none, if it is zero and no others are left
 abbrev pub before_others : Bool → List Bool → List Bool

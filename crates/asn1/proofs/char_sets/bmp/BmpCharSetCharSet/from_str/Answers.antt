@@ -1,10 +1,9 @@
-use Rattle.std.proofs.Common.{◌≡◌, ◌<◌, ℕ, List, [], ◌∷◌, ◌++◌, length, true, sym, ap, subst, ◌∙◌, arith}
+use Rattle.std.proofs.Common.{◌≡◌, ◌++◌, length, true, sym, ap, subst, ◌∙◌, arith}
 use Rattle.std.proofs.lemmas.Iterator.{YieldsList-from_chars}
 use Rattle.std.proofs.lemmas.Iterator.Consumers.{YieldsList-turn, YieldsList-end}
 use Rattle.std.proofs.lemmas.List.{map-id}
 use Rattle.std.specs.Str.{chars}
 use Rattle.bcder.specs.x690.CharSet.{Spells}
-use Rattle.bcder.specs.laws.CharSets.{AllHave}
 use Rattle.asn1.specs.CharacterSets.{is_cell, cell_octets, cell_step, each_octets}
 use Rattle.asn1.proofs.Spelled.{have_push, have_at, each_push, each_spelled, spelled_have, cell_reads, cell_has, large_is_no_cell, small_is_cell, is_scalar_at}
 use Rattle.asn1.proofs.char_sets.bmp.BmpCharSetCharSet.from_str.Goals as goal

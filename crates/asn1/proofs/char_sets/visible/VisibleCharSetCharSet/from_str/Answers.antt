@@ -1,4 +1,3 @@
-use Rattle.std.proofs.Common.{◌≡◌, true, false, sym, ◌∙◌}
 use Rattle.asn1.specs.CharacterSets.{is_visible}
 use Rattle.asn1.specs.CharacterLaws.{visible_ascii}
 use Rattle.asn1.proofs.Spelled.{text_of_set, text_not_of_set}
