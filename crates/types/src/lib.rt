@@ -11,6 +11,8 @@ mod any;
 #[cfg(test)]
 mod boxed;
 #[cfg(test)]
+mod characters;
+#[cfg(test)]
 mod choices;
 #[cfg(test)]
 mod clear;
@@ -20,6 +22,8 @@ mod cut;
 mod defaults;
 #[cfg(test)]
 mod definitions;
+#[cfg(test)]
+mod enumerated;
 #[cfg(test)]
 mod errors;
 #[cfg(test)]
@@ -37,11 +41,15 @@ mod members;
 #[cfg(test)]
 mod memory;
 #[cfg(test)]
+mod named_bits;
+#[cfg(test)]
 mod numbers;
 #[cfg(test)]
 mod plain;
 #[cfg(test)]
 mod recursion;
+#[cfg(test)]
+mod relative;
 #[cfg(test)]
 mod rows;
 #[cfg(test)]
