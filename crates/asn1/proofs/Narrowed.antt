@@ -79,7 +79,11 @@ module _ {A V X : Type 0} {lacks : Bool} (Tags : Tag → Type 0) (Wide : List �
         value = tt;
         none = tt;
         no_fault = tt;
-        refused = types.RefusesTyped.broken (record { usable = v.has.0.usable; value = none; absent = by_tags (λ rest g. header_is_there (tag_of v.tree) c h.0 rest v.has.0.usable h.1 (g (tag_of v.tree) v.has.1)) }) i;
+        refused = types.RefusesTyped.broken (record {
+          usable = v.has.0.usable;
+          value = none;
+          absent = by_tags (λ rest g. header_is_there (tag_of v.tree) c h.0 rest v.has.0.usable h.1 (g (tag_of v.tree) v.has.1));
+        }) i;
         failed = s usable;
         mode = m ∙ r.mode;
         marked = k ∙ r.marked;

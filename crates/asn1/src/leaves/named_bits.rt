@@ -1,5 +1,6 @@
 //! BIT STRING with named bits (X.680, 22.7; X.690, 11.2.2).
-ghost use Rattle.std.specs.Prelude.{◌≡◌, ◌↔◌, Bool, List, IsTrue, false, get_or, length, refl, true};
+ghost use Rattle.std.specs.Prelude.{◌≡◌, ◌↔◌, Bool, List, IsTrue};
+ghost use Rattle.std.specs.Prelude.{false, get_or, length, refl, true};
 ghost use Rattle.bcder.specs.calls.Views.{Moved};
 ghost use Rattle.bcder.specs.x690.BitString.{bit_string_tag, bits};
 ghost use Rattle.asn1.specs.Markers.{only_fixed};
