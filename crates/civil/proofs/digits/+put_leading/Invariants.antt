@@ -1,0 +1,4 @@
+use Rattle.civil.proofs.digits.+put_leading.Given as goal
+
+abbrev pub decreases-put_leading : goal.decreases-put_leading
+decreases-put_leading l = l.count
