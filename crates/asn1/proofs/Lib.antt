@@ -45,3 +45,4 @@ pub mod Numbered
 pub mod Spelled
 pub mod Trimmed
 pub mod NamedBack
+pub mod PiecesBack

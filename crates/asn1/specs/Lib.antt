@@ -33,3 +33,4 @@ pub mod CharacterSets
 pub mod CharacterLaws
 pub mod NamedBitLists
 pub mod RelativeIdentifiers
+pub mod Times

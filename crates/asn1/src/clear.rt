@@ -26,6 +26,7 @@ mod plain;
 mod sets;
 mod strings;
 mod tagged;
+mod times;
 mod tuples;
 
 use crate::writers::{Encode, EncodeFields};

@@ -81,7 +81,7 @@ fn read_contents<V: FromContents, S: Source>(
 /// Takes the next value if it has this tag. It then has to be primitive, and its contents octets
 /// have to mean something.
 #[inline(always)]
-fn take_contents_if<V: FromContents, S: Source>(
+pub(crate) fn take_contents_if<V: FromContents, S: Source>(
     cons: &mut Constructed<'_, S>,
     tag: Tag,
 ) -> Result<Option<V>, DecodeError<S::Error>>

@@ -49,6 +49,7 @@ pub use char_sets::{
     UniversalStringRef, VisibleCharSet, VisibleString, VisibleStringRef,
 };
 pub use choice::{Choice2, Choice3, Choice4};
+pub use civil::{DateTime, GeneralizedTime, UtcTime};
 pub use clear::{Clear, ClearContents, ClearDefinition, ClearFields, ClearParts};
 pub use default::{DefaultValue, OrDefault};
 pub use definition::{DecodeDefinition, Definition};

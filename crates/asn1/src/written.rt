@@ -23,6 +23,7 @@ mod plain;
 mod sets;
 mod strings;
 mod tagged;
+mod times;
 mod tuples;
 
 use crate::writers::{ByRef, Encode, EncodeFields};
