@@ -59,6 +59,8 @@ mod sources;
 #[cfg(test)]
 mod strings;
 #[cfg(test)]
+mod times;
+#[cfg(test)]
 mod trees;
 #[cfg(test)]
 mod tuples;
