@@ -87,6 +87,8 @@ class Edit:
         with open(file, encoding="utf-8") as it:
             text = it.read()
         self.pairs, self.goal = list(pairs_of(text)), goal_of(text)
+        # The checker's names of the functions that it turns, where it gives them.
+        self.named = [it[10:].strip() for it in text.split("\n") if it.startswith("function: ")]
         if not self.pairs:
             raise BadEdit("it has no 'old:' and 'new:' pair")
         texts = self.applied({}, crate)
@@ -166,8 +168,8 @@ def pairs_of(text):
                 raise BadEdit("a 'new:' line stands before any 'file:' or 'old:' line")
             yield path, before, old, line[5:] if line.startswith("new: ") else line[4:]
             old, before = None, []
-        elif line.strip() and not line.startswith("goal: "):
-            raise BadEdit(f"a line is no 'goal:', 'file:', 'after:', 'old:' or 'new:' line: {line[:60]}")
+        elif line.strip() and not line.startswith(("goal: ", "function: ")):
+            raise BadEdit(f"a line is no 'goal:', 'function:', 'file:', 'after:', 'old:' or 'new:' line: {line[:60]}")
 
 
 def goal_of(text):

@@ -53,6 +53,30 @@ class Judge:
                 self.running.remove(jobs)
                 self.ending.notify_all()
 
+    def built(self, crate, batch, jobs):
+        """Judges edits in one check from nothing, of the functions that they name and of what these call, over the libraries
+        that the gate built."""
+        folder, texts = tempfile.mkdtemp(dir=self.scratch), {}
+        for part in ("src", "specs", "proofs"):
+            if os.path.isdir(f"{crate.folder}/{part}"):
+                shutil.copytree(f"{crate.folder}/{part}", f"{folder}/{part}")
+        for edit in batch:
+            texts = edit.applied(texts, crate)
+        for path, text in texts.items():
+            with open(f"{folder}/{path}", "w", encoding="utf-8") as it:
+                it.write(text)
+        names = sorted({it for edit in batch for it in edit.named})
+        words = [*over_built(ROOT, crate.name), "--jobs", str(jobs), *(it for name in names for it in ("--only", name))]
+        how = {"stdin": subprocess.DEVNULL, "stdout": subprocess.PIPE, "stderr": subprocess.STDOUT}
+        report = Report(subprocess.run(words, cwd=folder, **how).stdout.decode(errors="replace"))
+        bad = report.uncompiled(texts, batch)
+        for edit in batch:
+            if not report.is_whole:
+                self.say(edit.label, BAD, bad.get(edit) or f"the check gave no verdict: {report.text.strip()[-200:]}")
+            else:
+                self.say(edit.label, *report.verdict(crate, edit))
+        self.note(f"{crate.name}: a check of {len(batch)} edits")
+
     def say(self, label, fared, why):
         """A line of an edit, or of a control: a right body, which fares well where it isn't refused."""
         is_control = label.startswith("edits/controls/")
@@ -148,6 +172,21 @@ def lines_under(root, name):
     return {it: line for it, line in lines.items() if it in found}
 
 
+def over_built(root, name):
+    """The words of a check of a crate over the libraries of the repository below it, as they lie in crates/*/out/rlib."""
+    said = subprocess.run(["rt", "doc"], stdin=subprocess.DEVNULL, stdout=subprocess.PIPE, check=True).stdout.decode()
+    kit, lines = os.path.dirname(said.strip()), lines_under(root, name)
+    of = lambda it: f"{root}/crates/{it}/out/rlib" if it in lines else f"{kit}/rlibs"
+    top = "src/main.rt" if os.path.isfile(f"{root}/crates/{name}/src/main.rt") else "src/lib.rt"
+    words = [f"{kit}/bin/rattle", "check", "--crate-name", name, top]
+    for it in ["std", *lines[name].partition(":")[2].split()]:
+        words += ["--extern", f"{it}={of(it)}/{it}.rlib"]
+    for it in [f"{kit}/rlibs", *(of(it) for it in lines if it != name)]:
+        words += ["-L", f"dependency={it}"]
+    words += ["--antt-project", f"{kit}/rattle/logic/antt-project.json", "--logic-built", f"{kit}/logic_built"]
+    return [*words, "--links", f"{name}="]
+
+
 def share(root, to, name):
     """Copies a crate and those below it, and shares what earlier checks kept, so that only what an edit turns is checked.
 
@@ -186,13 +225,31 @@ def edits_in(folder):
 
 
 def crate_of(file):
-    """The crate of an edit by its place: below edits/CRATE/ or edits/controls/CRATE/, or in crates/CRATE/must-fail/."""
+    """The crate of an edit by its place: below edits/CRATE/, edits/controls/CRATE/ or edits/gate/CRATE/, or in crates/CRATE/must-fail/."""
     words = os.path.relpath(os.path.abspath(file), ROOT).split(os.sep)
-    return words[2] if words[:2] == ["edits", "controls"] else words[1]
+    return words[2] if words[0] == "edits" and words[1] in ("controls", "gate") else words[1]
+
+
+def gate(names):
+    """Judges the edits of edits/gate of these crates, or of all, and returns the exit status."""
+    with tempfile.TemporaryDirectory(prefix="edits-") as scratch:
+        judge, todo = Judge(scratch), []
+        for name in names or sorted(os.listdir(f"{ROOT}/edits/gate")):
+            todo += judge.batches(name, edits_in(f"{ROOT}/edits/gate/{name}"))
+        # The largest first, with the processors that its part of the edits comes to.
+        todo.sort(key=lambda it: -len(it[1]))
+        every = sum(len(edits) for _, edits in todo)
+        with ThreadPoolExecutor(PROCESSORS) as pool:
+            list(pool.map(lambda it: judge.built(*it, max(1, round(PROCESSORS * len(it[1]) / every))), todo))
+        told = ", ".join(f"{count} {it}" for it, count in judge.fared.items())
+        print(f"edits/gate: {told or 'none'}; in {(time.monotonic() - judge.began) / 60:.1f} minutes")
+        return 0 if judge.is_well and judge.fared[REFUSED] else 1
 
 
 def main(words):
-    gate, files = "--gate" in words, [it for it in words if it.endswith(".edit")]
+    if words[:1] == ["--built"]:
+        return gate(words[1:])
+    of_gate, files = "--gate" in words, [it for it in words if it.endswith(".edit")]
     names = [it for it in words if it != "--gate" and it not in files]
     for it in [*names, *map(crate_of, files)]:
         if not os.path.isdir(f"{ROOT}/crates/{it}"):
@@ -202,7 +259,7 @@ def main(words):
     for it in files:
         chosen.setdefault(crate_of(it), []).append(it)
     for name in names or sorted(os.listdir(f"{ROOT}/crates")) * (not files):
-        kept = edits_in(f"{ROOT}/crates/{name}/must-fail") if gate else []
+        kept = edits_in(f"{ROOT}/crates/{name}/must-fail") + edits_in(f"{ROOT}/edits/gate/{name}") if of_gate else []
         both = edits_in(f"{ROOT}/edits/{name}") + edits_in(f"{ROOT}/edits/controls/{name}")
         chosen.setdefault(name, []).extend(both + kept)
     with tempfile.TemporaryDirectory(prefix="edits-") as scratch:
