@@ -11,11 +11,7 @@ mod judge;
 pub mod kind;
 pub mod laws;
 mod real;
-#[cfg(test)]
-mod rows;
 pub mod rule;
-#[cfg(test)]
-mod tests;
 mod text;
 mod time;
 mod walk;

@@ -14,6 +14,7 @@ use lines::malformed::Malformed;
 use lines::row::{Row, Step, row_of};
 use lines::tally::{Differing, Tally, differ_in};
 use std::alloc::{AllocError, Global};
+use support::calls::{Answer as Found, Call as Skip, Pass, ask};
 use support::sip::Sip;
 
 /// A call on content, or on what `enter` entered.
@@ -208,25 +209,33 @@ fn captures<S: Source>(
     }
 }
 
-/// Does a step that captures nothing, and returns its result.
+/// Returns the call that skips values, if it is one.
+fn pass_of(call: Call) -> Option<Pass> {
+    match call {
+        Call::Pass => Some(Pass::Walk),
+        Call::Skip => Some(Pass::Skip),
+        Call::SkipOpt => Some(Pass::SkipOpt),
+        Call::SkipOne => Some(Pass::SkipOne),
+        Call::SkipAll => Some(Pass::SkipAll),
+        _ => None,
+    }
+}
+
+/// Skips values by a call, or an INTEGER if there is none, and returns whether there was a value.
 #[tactic(auto, using(bcder::specs::laws::Moved::steps))]
 fn pass_by<S: Source>(
     cons: &mut Constructed<'_, S>,
     alloc: Global,
-    call: Call,
-) -> Result<Option<()>, DecodeError<S::Error>>
+    pass: Option<Pass>,
+) -> Result<bool, DecodeError<S::Error>>
     ensures { Moved S.stream cons }
 {
-    match call {
-        Call::Integer => Ok(Some(cons.take_primitive_if(
-            Tag::INTEGER,
-            |octets| octets.skip_all(),
-        )?)),
-        Call::Skip => Ok(Some(cons.skip(alloc, &mut |_, _, _| Ok(()))?)),
-        Call::SkipOpt => cons.skip_opt(alloc, &mut |_, _, _| Ok(())),
-        Call::SkipOne => cons.skip_one(alloc),
-        Call::SkipAll => Ok(Some(cons.skip_all(alloc)?)),
-        _ => walk(cons),
+    match pass {
+        Some(pass) => Ok(ask(cons, alloc, Skip::Pass(pass))? == Found::Passed),
+        None => {
+            cons.take_primitive_if(Tag::INTEGER, |octets| octets.skip_all())?;
+            Ok(true)
+        }
     }
 }
 
@@ -235,9 +244,9 @@ fn pass_by<S: Source>(
 fn passes<S: Source>(cons: &mut Constructed<'_, S>, alloc: Global, step: &CaptureStep) -> bool
     ensures { Moved S.stream cons }
 {
-    let answer = match pass_by(cons, alloc, step.call) {
-        Ok(Some(())) => Answer::Taken,
-        Ok(None) => Answer::Absent,
+    let answer = match pass_by(cons, alloc, pass_of(step.call)) {
+        Ok(true) => Answer::Taken,
+        Ok(false) => Answer::Absent,
         Err(error) => error_kind(&error, Tag::INTEGER),
     };
     answer == step.answer

@@ -3,43 +3,28 @@ ghost use Rattle.bcder.specs.calls.Views.{Moved, MovedContent, MovedOctets};
 
 use anyhow::Error;
 use bcder::decode::{
-    BytesSource, Constructed, Content, ContentError, DecodeError, Primitive, SliceSource, Source,
-    walk,
+    BytesSource, Constructed, Content, DecodeError, Primitive, SliceSource, Source,
 };
-use bcder::string::{Ia5String, NumericString, PrintableString, Utf8String};
-use bcder::{BitString, Integer, Mode, OctetString, Oid, Tag, Unsigned};
+use bcder::string::{Ia5String, NumericString, PrintableString};
+use bcder::{Mode, Tag};
 use bytes::Bytes;
 use lines::fields::{modes_of, next, octets_of};
 use lines::tally::Tally;
 use std::alloc::{AllocError, Global};
-use support::calls::{Inside, Take, take_by};
+use support::calls::{
+    Answer, Call, Capture, Inside, Kept, Pass, Reader as Octets, Take, Text, Typed, Width, ask,
+    take_by,
+};
 use support::sip::Sip;
 
 /// A reader of the next value.
 #[derive(Clone, Copy)]
 enum Reader {
-    Walk,
-    SkipOne,
-    SkipOpt,
-    SkipAll,
-    CaptureOne,
-    CaptureAll,
+    /// A call of `support`.
+    Call(Call),
 
     /// A call that takes a value by a closure, which skips what is inside.
     Take(Take),
-    TakeBool,
-    TakeNull,
-    TakeU8,
-    TakeI64,
-    SkipU8If,
-    Integer,
-    Unsigned,
-    Oid,
-    SkipOid,
-    BitString,
-    SkipBits,
-    OctetString,
-    Utf8String,
     NumericString,
     PrintableString,
     Ia5String,
@@ -47,12 +32,12 @@ enum Reader {
 
 /// The readers of any value.
 const OF_ALL: [Reader; 7] = [
-    Reader::Walk,
-    Reader::SkipOne,
-    Reader::SkipOpt,
-    Reader::SkipAll,
-    Reader::CaptureOne,
-    Reader::CaptureAll,
+    Reader::Call(Call::Pass(Pass::Walk)),
+    Reader::Call(Call::Pass(Pass::SkipOne)),
+    Reader::Call(Call::Pass(Pass::SkipOpt)),
+    Reader::Call(Call::Pass(Pass::SkipAll)),
+    Reader::Call(Call::Capture(Capture::One)),
+    Reader::Call(Call::Capture(Capture::All)),
     Reader::Take(Take::Value),
 ];
 
@@ -62,40 +47,23 @@ const OF_SOME: [Reader; 20] = [
     Reader::Take(Take::Constructed),
     Reader::Take(Take::Sequence),
     Reader::Take(Take::Set),
-    Reader::TakeBool,
-    Reader::TakeNull,
-    Reader::TakeU8,
-    Reader::TakeI64,
-    Reader::SkipU8If,
-    Reader::Integer,
-    Reader::Unsigned,
-    Reader::Oid,
-    Reader::SkipOid,
-    Reader::BitString,
-    Reader::SkipBits,
-    Reader::OctetString,
-    Reader::Utf8String,
+    Reader::Call(Call::Typed(Typed::Bool)),
+    Reader::Call(Call::Typed(Typed::Null)),
+    Reader::Call(Call::Typed(Typed::U8)),
+    Reader::Call(Call::Read(Octets::Signed(Width::W64))),
+    Reader::Call(Call::Typed(Typed::SkipU8If)),
+    Reader::Call(Call::Kept(Kept::Integer)),
+    Reader::Call(Call::Kept(Kept::Unsigned)),
+    Reader::Call(Call::Kept(Kept::Identifier)),
+    Reader::Call(Call::Kept(Kept::SkipIdentifier)),
+    Reader::Call(Call::Text(Text::Bits)),
+    Reader::Call(Call::Text(Text::SkipBits)),
+    Reader::Call(Call::Text(Text::Octets)),
+    Reader::Call(Call::Text(Text::Characters)),
     Reader::NumericString,
     Reader::PrintableString,
     Reader::Ia5String,
 ];
-
-/// Skips the next value, or all values.
-fn pass<S: Source>(
-    cons: &mut Constructed<'_, S>,
-    alloc: Global,
-    reader: Reader,
-) -> Result<(), DecodeError<S::Error>>
-    ensures { Moved S.stream cons }
-{
-    let found = match reader {
-        Reader::Walk => walk(cons)?,
-        Reader::SkipOne => cons.skip_one(alloc)?,
-        Reader::SkipOpt => cons.skip_opt(alloc, &mut |_tag, _constructed, _depth| Ok(()))?,
-        _ => return cons.skip_all(alloc),
-    };
-    found.ok_or(cons.content_err(ContentError::from_static("nothing there")))
-}
 
 /// Skips what is inside a value.
 #[derive(Clone, Copy)]
@@ -132,131 +100,38 @@ impl Inside for Whole {
     }
 }
 
-/// Takes a boolean, a null or an INTEGER.
-fn take_typed<S: Source>(
-    cons: &mut Constructed<'_, S>,
-    reader: Reader,
-) -> Result<(), DecodeError<S::Error>>
-    ensures { Moved S.stream cons }
-{
-    match reader {
-        Reader::TakeBool => {
-            cons.take_bool()?;
-        }
-        Reader::TakeU8 => {
-            cons.take_u8()?;
-        }
-        Reader::TakeI64 => {
-            cons.take_primitive_if(Tag::INTEGER, |octets| octets.to_i64())?;
-        }
-        Reader::SkipU8If => cons.skip_u8_if(5)?,
-        _ => cons.take_null()?,
-    }
-    Ok(())
-}
-
-/// Takes a number, an object identifier or a bit string, or skips it.
-fn take_kept<S: Source>(
-    cons: &mut Constructed<'_, S>,
-    alloc: Global,
-    reader: Reader,
-) -> Result<(), DecodeError<S::Error>>
-    ensures { Moved S.stream cons }
-{
-    match reader {
-        Reader::Integer => {
-            Integer::take_from(alloc, cons)?;
-        }
-        Reader::Unsigned => {
-            Unsigned::take_from(alloc, cons)?;
-        }
-        Reader::Oid => {
-            Oid::take_from(alloc, cons)?;
-        }
-        Reader::SkipOid => Oid::skip_in(cons)?,
-        Reader::BitString => {
-            BitString::take_from(alloc, cons)?;
-        }
-        _ => BitString::skip_in(cons)?,
-    }
-    Ok(())
-}
-
-/// Takes a string of octets or characters.
+/// Takes a string of characters, and returns the number of its octets.
 fn take_string<S: Source>(
-    cons: &mut Constructed<'_, S>,
-    alloc: Global,
-    reader: Reader,
-) -> Result<(), DecodeError<S::Error>>
-    ensures { Moved S.stream cons }
-{
-    match reader {
-        Reader::Utf8String => {
-            Utf8String::take_from(alloc, cons)?;
-        }
-        Reader::NumericString => {
-            NumericString::take_from(alloc, cons)?;
-        }
-        Reader::PrintableString => {
-            PrintableString::take_from(alloc, cons)?;
-        }
-        Reader::Ia5String => {
-            Ia5String::take_from(alloc, cons)?;
-        }
-        _ => {
-            OctetString::take_from(alloc, cons)?;
-        }
-    }
-    Ok(())
-}
-
-/// Captures the next value, or all values, and returns the number of their octets.
-fn capture<S: Source>(
     cons: &mut Constructed<'_, S>,
     alloc: Global,
     reader: Reader,
 ) -> Result<usize, DecodeError<S::Error>>
     ensures { Moved S.stream cons }
 {
-    let captured = match reader {
-        Reader::CaptureAll => cons.capture_all(alloc)?,
-        _ => cons.capture_one(alloc)?,
-    };
-    Ok(captured.len())
+    match reader {
+        Reader::NumericString => Ok(NumericString::take_from(alloc, cons)?.len()),
+        Reader::PrintableString => Ok(PrintableString::take_from(alloc, cons)?.len()),
+        _ => Ok(Ia5String::take_from(alloc, cons)?.len()),
+    }
 }
 
-/// Reads the next value.
+/// Reads the next value, and returns whether there is one.
 fn read<S: Source>(
     cons: &mut Constructed<'_, S>,
     alloc: Global,
     reader: Reader,
-) -> Result<(), DecodeError<S::Error>>
+) -> Result<bool, DecodeError<S::Error>>
     ensures { Moved S.stream cons }
 {
     match reader {
-        Reader::Walk | Reader::SkipOne | Reader::SkipOpt | Reader::SkipAll => {
-            pass(cons, alloc, reader)
-        }
-        Reader::CaptureOne | Reader::CaptureAll => {
-            capture(cons, alloc, reader)?;
-            Ok(())
-        }
+        Reader::Call(call) => Ok(ask(cons, alloc, call)? != Answer::Absent),
         Reader::Take(take) => {
-            take_by(cons, take, Tag::SEQUENCE, &mut Whole(alloc))?;
-            Ok(())
+            Ok(take_by(cons, take, Tag::SEQUENCE, &mut Whole(alloc))?.is_some())
         }
-        Reader::Integer
-        | Reader::Unsigned
-        | Reader::Oid
-        | Reader::SkipOid
-        | Reader::BitString
-        | Reader::SkipBits => take_kept(cons, alloc, reader),
-        Reader::OctetString
-        | Reader::Utf8String
-        | Reader::NumericString
-        | Reader::PrintableString
-        | Reader::Ia5String => take_string(cons, alloc, reader),
-        _ => take_typed(cons, reader),
+        _ => {
+            take_string(cons, alloc, reader)?;
+            Ok(true)
+        }
     }
 }
 
@@ -271,7 +146,7 @@ fn is_read<S: Source>(
     wanted: bool,
 ) -> bool {
     match mode.decode_lent(source, |cons| read(cons, alloc, reader)) {
-        Ok(()) => wanted,
+        Ok(found) => found == wanted,
         Err(error) => !wanted && error.content_error().is_some(),
     }
 }

@@ -4,23 +4,22 @@ ghost use Rattle.bcder.specs.calls.Views.{Moved};
 use crate::takes::has_left;
 use anyhow::Error;
 use bcder::Mode;
-use bcder::decode::{BytesSource, Constructed, DecodeError, SliceSource, Source, walk};
+use bcder::decode::{BytesSource, Constructed, DecodeError, SliceSource, Source};
 use bytes::Bytes;
 use lines::fields::{modes_of, next, number, octets_of};
 use lines::tally::{Differing, Tally, differ_in};
 use std::alloc::{AllocError, Global};
+use support::calls::{Answer, Call, Capture, Pass, ask};
 use support::sip::Sip;
 
-/// A call that skips the next value.
-#[derive(Clone, Copy)]
-enum Way {
-    Walk,
-    SkipOne,
-    CaptureOne,
+/// The calls that skip the next value, and the one that skips all.
+const WALK: Call = Call::Pass(Pass::Walk);
 
-    /// It skips all values.
-    SkipAll,
-}
+const SKIP_ONE: Call = Call::Pass(Pass::SkipOne);
+
+const CAPTURE_ONE: Call = Call::Capture(Capture::One);
+
+const SKIP_ALL: Call = Call::Pass(Pass::SkipAll);
 
 /// What was compared of each reader.
 #[derive(Clone, Copy, Default)]
@@ -57,22 +56,21 @@ fn plainly(mode: Mode, octets: &[u8]) -> Option<usize> {
 fn passes<S: Source>(
     cons: &mut Constructed<'_, S>,
     alloc: Global,
-    way: Way,
+    call: Call,
     size: Option<usize>,
 ) -> Result<bool, DecodeError<S::Error>>
     ensures { Moved S.stream cons }
 {
-    match way {
-        Way::Walk => Ok(walk(cons)?.is_some()),
-        Way::SkipOne => Ok(cons.skip_one(alloc)?.is_some()),
-        Way::SkipAll => {
-            cons.skip_all(alloc)?;
-            Ok(true)
+    match ask(cons, alloc, call) {
+        Ok(Answer::Number(len)) => Ok(size == Some(len)),
+        Ok(answer) => Ok(answer == Answer::Passed),
+        Err(error) => {
+            if call.captures() {
+                Ok(false)
+            } else {
+                Err(error)
+            }
         }
-        Way::CaptureOne => match cons.capture_one(alloc) {
-            Ok(captured) => Ok(size == Some(captured.as_slice().len())),
-            Err(_) => Ok(false),
-        },
     }
 }
 
@@ -82,11 +80,11 @@ fn is_passed<S: Source>(
     source: &mut S,
     alloc: Global,
     mode: Mode,
-    way: Way,
+    call: Call,
     count: usize,
     size: Option<usize>,
 ) -> bool {
-    match mode.decode_lent(source, |cons| passes(cons, alloc, way, size)) {
+    match mode.decode_lent(source, |cons| passes(cons, alloc, call, size)) {
         Ok(passed) => {
             let found = source.request(count);
             match count.checked_sub(size.unwrap_or(0)) {
@@ -94,7 +92,7 @@ fn is_passed<S: Source>(
                 None => false,
             }
         }
-        Err(_) => size.is_none() && !matches!(way, Way::CaptureOne),
+        Err(_) => size.is_none() && !call.captures(),
     }
 }
 
@@ -102,18 +100,18 @@ fn is_passed<S: Source>(
 fn compare_way(
     alloc: Global,
     mode: Mode,
-    way: Way,
+    call: Call,
     octets: &[u8],
     size: Option<usize>,
     tally: &mut Tally,
 ) -> Result<(), AllocError> {
     let count = octets.len();
     let mut slice = SliceSource::new(octets);
-    tally.count(is_passed(&mut slice, alloc, mode, way, count, size));
+    tally.count(is_passed(&mut slice, alloc, mode, call, count, size));
     let mut shared = BytesSource::new(Bytes::copy_from_slice(alloc, octets)?);
-    tally.count(is_passed(&mut shared, alloc, mode, way, count, size));
+    tally.count(is_passed(&mut shared, alloc, mode, call, count, size));
     let mut sip = Sip::new(octets.to_vec(alloc)?, 0);
-    tally.count(is_passed(&mut sip, alloc, mode, way, count, size));
+    tally.count(is_passed(&mut sip, alloc, mode, call, count, size));
     Ok(())
 }
 
@@ -126,19 +124,12 @@ pub fn compare_ways(
     tallies: &mut Tallies,
 ) -> Result<(), AllocError> {
     tallies.plain.count(plainly(mode, octets) == size);
-    compare_way(alloc, mode, Way::Walk, octets, size, &mut tallies.walk)?;
+    compare_way(alloc, mode, WALK, octets, size, &mut tallies.walk)?;
+    compare_way(alloc, mode, SKIP_ONE, octets, size, &mut tallies.skip_one)?;
     compare_way(
         alloc,
         mode,
-        Way::SkipOne,
-        octets,
-        size,
-        &mut tallies.skip_one,
-    )?;
-    compare_way(
-        alloc,
-        mode,
-        Way::CaptureOne,
+        CAPTURE_ONE,
         octets,
         size,
         &mut tallies.capture_one,
@@ -155,14 +146,7 @@ pub fn compare_whole(
     tallies: &mut Tallies,
 ) -> Result<(), AllocError> {
     compare_ways(alloc, mode, octets, size, tallies)?;
-    compare_way(
-        alloc,
-        mode,
-        Way::SkipAll,
-        octets,
-        size,
-        &mut tallies.skip_all,
-    )
+    compare_way(alloc, mode, SKIP_ALL, octets, size, &mut tallies.skip_all)
 }
 
 /// Compares the answers of one line of `walk.tsv`.
@@ -206,10 +190,10 @@ fn compare_list(alloc: Global, octets: &[u8], tallies: &mut ListTallies) {
     for mode in [Mode::Ber, Mode::Cer, Mode::Der] {
         let size = plainly(mode, octets);
         let mut slice = SliceSource::new(octets);
-        let walks = is_passed(&mut slice, alloc, mode, Way::Walk, count, size);
+        let walks = is_passed(&mut slice, alloc, mode, WALK, count, size);
         tallies.walk.count(walks);
         let mut slice = SliceSource::new(octets);
-        let skips = is_passed(&mut slice, alloc, mode, Way::SkipOne, count, size);
+        let skips = is_passed(&mut slice, alloc, mode, SKIP_ONE, count, size);
         tallies.skip_one.count(skips);
     }
 }

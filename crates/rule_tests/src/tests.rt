@@ -1,10 +1,9 @@
 //! What octets break, in rows.
 ghost use Rattle.std.specs.Prelude.{◌<◌};
 
-use crate::breaches;
 use crate::rows::ROWS;
-use crate::rule::Breach;
 use bcder::Mode;
+use rules::{Breach, breaches};
 use std::alloc::Global;
 use std::fmt::Debug;
 use std::process::Abort;
