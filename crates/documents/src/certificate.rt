@@ -5,7 +5,7 @@ use crate::fields::{
     time_text,
 };
 use anyhow::Error;
-use certificates::{Certificate, TbsCertificate};
+use pkix::{Certificate, TbsCertificate};
 use std::alloc::Global;
 
 /// Adds the names and times.

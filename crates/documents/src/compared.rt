@@ -4,12 +4,12 @@ use crate::turned::{self, Changes};
 use crate::types::{Choice, Kind, Marked, Nested, Record, Tagged, Wrapped};
 use crate::values::{self, Row, Tallies};
 use anyhow::Error;
-use asn1::{Any, Decode, Encode, Leaf, ObjectIdentifier, SequenceOf, SetOf};
+use asn1::{Any, Decode, Encode, ObjectIdentifier, SequenceOf, SetOf};
 use bcder::decode::BytesSource;
 use bcder::string::Utf8String;
 use bcder::{BitString, Integer, OctetString};
-use certificates::{AlgorithmIdentifier, GeneralizedTime, UtcTime};
 use lines::malformed::Malformed;
+use pkix::{AlgorithmIdentifier, GeneralizedTime, UtcTime};
 use std::alloc::Global;
 
 /// What is compared of a value.
@@ -75,8 +75,8 @@ pub fn compare_kind(
         Kind::Implicit => compare::<Marked>(alloc, what, tallies),
         Kind::Tagged => compare::<Tagged>(alloc, what, tallies),
         Kind::Nested => compare::<Nested>(alloc, what, tallies),
-        Kind::Utc => compare_turned::<Leaf<UtcTime>>(alloc, what, tallies),
-        Kind::General => compare_turned::<Leaf<GeneralizedTime>>(alloc, what, tallies),
+        Kind::Utc => compare_turned::<UtcTime>(alloc, what, tallies),
+        Kind::General => compare_turned::<GeneralizedTime>(alloc, what, tallies),
         Kind::Any => compare_turned::<Any>(alloc, what, tallies),
         Kind::Algorithm => compare_turned::<AlgorithmIdentifier>(alloc, what, tallies),
     }

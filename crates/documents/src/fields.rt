@@ -1,7 +1,7 @@
 //! Fields that several documents have, as text.
 use anyhow::Error;
 use bcder::BitString;
-use certificates::{
+use pkix::{
     AlgorithmIdentifier, AttributeTypeAndValue, Extension, Name, SubjectPublicKeyInfo, Time,
 };
 use std::alloc::Global;
@@ -43,17 +43,21 @@ pub fn name_text(alloc: Global, name: &Name) -> Result<String, Error> {
     Ok(text)
 }
 
-/// Returns a time, and of which type it is.
-pub fn time_text(alloc: Global, time: &Time) -> Result<String, Error> {
-    let (kind, characters) = match time {
-        Time::UtcTime(time) => ("utc ", time.0.as_slice()),
-        Time::GeneralTime(time) => ("general ", time.0.as_slice()),
-    };
+/// Returns a text and characters.
+fn characters_text(alloc: Global, kind: &str, characters: &[u8]) -> Result<String, Error> {
     let mut text = String::from_str(alloc, kind)?;
     for character in characters {
         text.push(char::from(*character))?;
     }
     Ok(text)
+}
+
+/// Returns a time, and of which type it is.
+pub fn time_text(alloc: Global, time: &Time) -> Result<String, Error> {
+    match time {
+        Time::UtcTime(time) => characters_text(alloc, "utc ", time.to_octets().as_slice()),
+        Time::GeneralTime(time) => characters_text(alloc, "general ", time.to_octets().as_slice()),
+    }
 }
 
 /// Returns how many bits there are, and the octets.

@@ -4,7 +4,7 @@ use crate::fields::{
     add_extensions, add_line, add_signature, algorithm_text, name_text, time_text,
 };
 use anyhow::Error;
-use certificates::{CertificateList, RevokedCertificate, TbsCertList};
+use pkix::{CertificateList, RevokedCertificate, TbsCertList};
 use std::alloc::Global;
 
 /// Adds a certificate that is revoked.

@@ -1,8 +1,9 @@
 //! Compares what types of `asn1` read and write with what openssl and pyasn1 say.
 //!
-//! First it reads certificates, lists of revoked ones and requests by the types of `certificates`,
+//! First it reads certificates, lists of revoked ones and requests by the types of `pkix`,
 //! and prints each field on a line. The output that is wanted was written by openssl. It writes
-//! each of them, and cuts it before each octet.
+//! each of them, and cuts it before each octet. It does the same with other structures, of which it
+//! prints no fields.
 //!
 //! Then it reads random values, which pyasn1 encoded in BER, CER and DER, and writes them in each
 //! mode. Last it changes each octet of some values. What is taken then was written by another
@@ -19,15 +20,16 @@ mod fields;
 mod list;
 mod request;
 mod shown;
+mod structures;
 mod turned;
 mod types;
 mod values;
 
 use crate::document::{Report, compare_line};
 use anyhow::Error;
-use certificates::{Certificate, CertificateList, CertificationRequest};
 use lines::replay::{print, replay};
 use lines::tally::Tally;
+use pkix::{Certificate, CertificateList, CertificationRequest};
 
 /// Prints what was compared of documents.
 fn print_report(rt: &HostRuntime, what: &str, report: &Report) -> Result<(), Error> {
@@ -54,6 +56,15 @@ fn replay_documents(rt: &HostRuntime) -> Result<(), Error> {
     print_report(rt, "requests", &report)
 }
 
+/// Replays `structures.tsv`.
+fn replay_structures(rt: &HostRuntime) -> Result<(), Error> {
+    let mut tallies = structures::Tallies::default();
+    replay(rt, "structures.tsv", &mut tallies, structures::compare_line)?;
+    print(rt, "structures read or refused", tallies.read)?;
+    print(rt, "structures written", tallies.written)?;
+    print(rt, "structures cut", tallies.cut)
+}
+
 /// Replays `values.tsv` and `turned.tsv`.
 fn replay_values(rt: &HostRuntime) -> Result<(), Error> {
     let mut tallies = values::Tallies::default();
@@ -68,5 +79,6 @@ fn replay_values(rt: &HostRuntime) -> Result<(), Error> {
 
 fn main(rt: HostRuntime) -> Result<(), Error> {
     replay_documents(&rt)?;
+    replay_structures(&rt)?;
     replay_values(&rt)
 }

@@ -2,7 +2,7 @@
 use crate::document::Document;
 use crate::fields::{add_key, add_line, add_signature, name_text};
 use anyhow::Error;
-use certificates::{Attribute, CertificationRequest, CertificationRequestInfo};
+use pkix::{Attribute, CertificationRequest, CertificationRequestInfo};
 use std::alloc::Global;
 
 /// Adds an attribute and its values.

@@ -2,10 +2,9 @@
 ghost use Rattle.std.specs.Prelude.{false, refl};
 ghost use Rattle.asn1.specs.declared.choice.Choice2.TheVariants.{One, Two};
 
-use crate::time::{GeneralizedTime, UtcTime};
 use asn1::{
-    ByRef, Choice2, Decode, DecodeParts, Encode, EncodeParts, Leaf, Parts, Sequence, SequenceTag,
-    Trace, Type, UseParts,
+    ByRef, Choice2, Decode, DecodeParts, Encode, EncodeParts, GeneralizedTime, Parts, Sequence,
+    SequenceTag, Trace, Type, UseParts, UtcTime,
 };
 use bcder::decode::{Constructed, DecodeError, Source};
 use bcder::{Mode, Tag};
@@ -96,15 +95,15 @@ impl EncodeParts for Validity {
 #[derive(Clone, Copy, Debug, PartialEq, Eq, Drop)]
 pub enum Time {
     /// With two digits for the year.
-    UtcTime(Leaf<UtcTime>),
+    UtcTime(UtcTime),
     /// With four digits for the year.
-    GeneralTime(Leaf<GeneralizedTime>),
+    GeneralTime(GeneralizedTime),
 }
 
-ghost use Rattle.certificates.specs.declared.validity.Time.TheVariants.{UtcTime, GeneralTime};
+ghost use Rattle.pkix.specs.declared.validity.Time.TheVariants.{UtcTime, GeneralTime};
 
 /// What defines [`Time`].
-type TimeParts = Choice2<Leaf<UtcTime>, Leaf<GeneralizedTime>>;
+type TimeParts = Choice2<UtcTime, GeneralizedTime>;
 
 impl Parts for Time {
     type As = TimeParts;

@@ -1,14 +1,13 @@
 //! What is signed of a list of revoked certificates.
 ghost use Rattle.std.specs.Prelude.{refl};
 
-use crate::{AlgorithmIdentifier, Name, Time, Version};
+use crate::{AlgorithmIdentifier, Extensions, Name, Time, Version};
 use asn1::{
     ByRef, Context, Decode, DecodeParts, Encode, EncodeParts, Explicit, Parts, Sequence,
     SequenceOf, SequenceTag, Trace, Type, UseParts,
 };
 use bcder::decode::{Constructed, DecodeError, Source};
 use bcder::{Integer, Mode, Tag};
-use extensions::Extensions;
 use std::alloc::Global;
 
 /// What is signed of a list of revoked certificates (RFC 5280, section 5.1.2).

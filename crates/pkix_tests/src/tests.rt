@@ -2,7 +2,7 @@
 //! together by hand.
 use crate::calls::{is_written, read, read_in, refusal};
 use bcder::Mode;
-use certificates::{Certificate, Name, SubjectPublicKeyInfo, Validity};
+use pkix::{Certificate, Name, SubjectPublicKeyInfo, Validity};
 
 /// `C = US, O = A`.
 const NAME: &[u8] = &[

@@ -1,4 +1,4 @@
-//! Tests of the types of `certificates` and `extensions`.
+//! Tests of the types of `pkix`.
 #![tactic(auto, using(bcder::specs::laws::Moved::untouched_is_moved))]
 
 #[cfg(test)]

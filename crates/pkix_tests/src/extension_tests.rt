@@ -1,8 +1,8 @@
-//! The types of `extensions`. The octets are put together by hand, from X.690 and RFC 5280.
+//! Extensions and signatures. The octets are put together by hand, from X.690 and RFC 5280.
 use crate::calls::{is_written, read, read_in};
-use asn1::{Choice2, OrDefault, SequenceOf};
+use asn1::{OrDefault, SequenceOf};
 use bcder::Mode;
-use extensions::{BasicConstraints, EcdsaSignature, Extensions, Time, Validity};
+use pkix::{BasicConstraints, EcdsaSigValue, Extensions, Time, Validity};
 use std::alloc::Global;
 use std::process::Abort;
 
@@ -122,11 +122,11 @@ fn the_notation_of_a_time_is_told_by_its_tag(rt: HostRuntime) {
     assert!(rt; !is_utc(&validity.not_after));
 }
 
-/// Whether a time is a UTCTime of 13 characters.
+/// Whether a time is a UTCTime.
 fn is_utc(time: &Time) -> bool {
     match time {
-        Choice2::One(utc) => utc.value.len() == 13,
-        Choice2::Two(_) => false,
+        Time::UtcTime(_) => true,
+        Time::GeneralTime(_) => false,
     }
 }
 
@@ -142,7 +142,7 @@ const SIGNATURES: [(&[u8], Option<(u8, u8)>); 2] = [
 
 /// Returns the two numbers of a signature.
 fn signature_of(rt: &impl Abort, alloc: Global, octets: &[u8]) -> Option<(u8, u8)> {
-    match read_in::<EcdsaSignature>(rt, alloc, Mode::Der, octets) {
+    match read_in::<EcdsaSigValue>(rt, alloc, Mode::Der, octets) {
         Some(signature) => match (u8::try_from(signature.r), u8::try_from(signature.s)) {
             (Ok(r), Ok(s)) => Some((r, s)),
             _ => None,

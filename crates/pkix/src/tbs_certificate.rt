@@ -1,14 +1,13 @@
 //! What is signed of a certificate.
 ghost use Rattle.std.specs.Prelude.{refl};
 
-use crate::{AlgorithmIdentifier, Name, SubjectPublicKeyInfo, Validity};
+use crate::{AlgorithmIdentifier, Extensions, Name, SubjectPublicKeyInfo, Validity};
 use asn1::{
     ByRef, Context, Decode, DecodeParts, DefaultValue, Encode, EncodeParts, Explicit, Implicit,
     OrDefault, Parts, Sequence, SequenceTag, Trace, Type, UseParts,
 };
 use bcder::decode::{Constructed, DecodeError, Source};
 use bcder::{BitString, Integer, Mode, NoMemory, Tag};
-use extensions::Extensions;
 use std::alloc::Global;
 
 /// The version of a certificate: 0 is the first, 1 the second and 2 the third (RFC 5280, section
