@@ -18,4 +18,4 @@ pub use lines::{CAPTURES, CONTENTS, KEPT, Line, OCTETS, PASSES, STRINGS, TAKES, 
 pub use octets::{Either, Reader, Width};
 pub use passes::{Capture, Pass};
 pub use takes::{Inside, Number, Take, take_by};
-pub use typed::Typed;
+pub use typed::{Typed, ask as ask_typed};

@@ -8,6 +8,7 @@ use bytes::Bytes;
 use lines::tally::{Differing, Tally, differ_in};
 use std::alloc::Global;
 use std::convert::TryFrom;
+use support::calls::{Answer, Typed, ask_typed};
 
 /// What was compared, by the kind of reader.
 #[derive(Clone, Copy, Default)]
@@ -348,46 +349,31 @@ fn take_content<S: Source>(
     cons.take_value(|_tag, content| of_content(content, width))
 }
 
-/// Takes a number, by a call of `Constructed`.
-#[tactic(auto, using(bcder::specs::laws::Moved::steps))]
-fn take<S: Source>(
-    cons: &mut Constructed<'_, S>,
-    width: Width,
-) -> Result<u128, DecodeError<S::Error>>
-    ensures { Moved S.stream cons }
-{
+/// Returns the call of `Constructed` that takes a number.
+fn taking(width: Width) -> Typed {
     match width {
-        Width::U8 => Ok(u128::from(cons.take_u8()?)),
-        Width::U16 => Ok(u128::from(cons.take_u16()?)),
-        Width::U32 => Ok(u128::from(cons.take_u32()?)),
-        _ => Ok(u128::from(cons.take_u64()?)),
+        Width::U8 => Typed::U8,
+        Width::U16 => Typed::U16,
+        Width::U32 => Typed::U32,
+        _ => Typed::U64,
     }
 }
 
-/// Takes a number, if there is one, by a call of `Constructed`.
-#[tactic(auto, using(bcder::specs::laws::Moved::steps))]
-fn take_opt<S: Source>(
-    cons: &mut Constructed<'_, S>,
-    width: Width,
-) -> Result<Option<u128>, DecodeError<S::Error>>
-    ensures { Moved S.stream cons }
-{
+/// Returns the call of `Constructed` that takes a number, if there is one.
+fn taking_opt(width: Width) -> Typed {
     match width {
-        Width::U8 => Ok(widened(cons.take_opt_u8()?)),
-        Width::U16 => Ok(widened(cons.take_opt_u16()?)),
-        Width::U32 => Ok(widened(cons.take_opt_u32()?)),
-        _ => Ok(widened(cons.take_opt_u64()?)),
+        Width::U8 => Typed::OptU8,
+        Width::U16 => Typed::OptU16,
+        Width::U32 => Typed::OptU32,
+        _ => Typed::OptU64,
     }
 }
 
-/// Returns a number as a `u128`, if there is one.
-fn widened<T>(number: Option<T>) -> Option<u128>
-where
-    u128: From<T>,
-{
-    match number {
-        Some(number) => Some(u128::from(number)),
-        None => None,
+/// Returns the number that was read, or `None` for an absent value or any error.
+fn told<E: Drop>(outcome: Result<Answer, E>) -> Option<u128> {
+    match outcome {
+        Ok(Answer::Number(number)) => Some(number as u128),
+        _ => None,
     }
 }
 
@@ -397,10 +383,16 @@ fn compare_content(value: &[u8], mode: Mode, numbers: &Numbers, readers: &mut Re
         let (width, wanted) = (*width, unsigned_of(wanted));
         let read = mode.decode(SliceSource::new(value), |cons| take_content(cons, width));
         count(&mut readers.content, found(read), wanted);
-        let read = mode.decode(SliceSource::new(value), |cons| take(cons, width));
-        count(&mut readers.taken, found(read), wanted);
-        let read = mode.decode(SliceSource::new(value), |cons| take_opt(cons, width));
-        count(&mut readers.optional, present(read), wanted);
+        let read = mode.decode(
+            SliceSource::new(value),
+            |cons| ask_typed(cons, taking(width)),
+        );
+        count(&mut readers.taken, told(read), wanted);
+        let read = mode.decode(
+            SliceSource::new(value),
+            |cons| ask_typed(cons, taking_opt(width)),
+        );
+        count(&mut readers.optional, told(read), wanted);
     }
 }
 
@@ -412,44 +404,37 @@ fn unsigned_of(number: Option<Number>) -> Option<u128> {
     }
 }
 
-/// A call that skips this number.
-#[derive(Clone, Copy)]
-enum Skip {
-    Content,
-    If,
-    OptIf,
-}
-
-/// Skips a number.
-fn skip_number<S: Source>(
+/// Skips the content of the next value, if it is this number.
+fn skip_content<S: Source>(
     cons: &mut Constructed<'_, S>,
-    call: Skip,
     number: u8,
 ) -> Result<(), DecodeError<S::Error>>
     ensures { Moved S.stream cons }
 {
-    match call {
-        Skip::Content => cons.take_value(|_tag, content| content.skip_u8_if(number)),
-        Skip::If => cons.skip_u8_if(number),
-        Skip::OptIf => cons.skip_opt_u8_if(number),
-    }
+    cons.take_value(|_tag, content| content.skip_u8_if(number))
+}
+
+/// Returns whether content is skipped if it is this number.
+fn is_content_skipped(value: &[u8], mode: Mode, number: u8) -> bool {
+    let source = SliceSource::new(value);
+    mode.decode(source, |cons| skip_content(cons, number))
+        .is_ok()
 }
 
 /// Returns whether a call skips a number.
-fn is_skipped(value: &[u8], mode: Mode, call: Skip, number: u8) -> bool {
+fn is_skipped(value: &[u8], mode: Mode, call: Typed) -> bool {
     let source = SliceSource::new(value);
-    mode.decode(source, |cons| skip_number(cons, call, number))
-        .is_ok()
+    mode.decode(source, |cons| ask_typed(cons, call)).is_ok()
 }
 
 /// Compares the calls that skip this number.
 fn compare_skipped(value: &[u8], mode: Mode, number: u8, numbers: &Numbers, readers: &mut Readers) {
     let same = numbers.octet == Some(number);
-    let skipped = is_skipped(value, mode, Skip::Content, number);
+    let skipped = is_content_skipped(value, mode, number);
     readers.content.count(skipped == same);
-    let skipped = is_skipped(value, mode, Skip::If, number);
+    let skipped = is_skipped(value, mode, Typed::SkipU8If(number));
     readers.skipped.count(skipped == same);
-    let skipped = is_skipped(value, mode, Skip::OptIf, number);
+    let skipped = is_skipped(value, mode, Typed::SkipOptU8If(number));
     readers.skipped.count(skipped == same);
 }
 

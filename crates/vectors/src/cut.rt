@@ -51,7 +51,7 @@ const OF_SOME: [Reader; 20] = [
     Reader::Call(Call::Typed(Typed::Null)),
     Reader::Call(Call::Typed(Typed::U8)),
     Reader::Call(Call::Read(Octets::Signed(Width::W64))),
-    Reader::Call(Call::Typed(Typed::SkipU8If)),
+    Reader::Call(Call::Typed(Typed::SkipU8If(5))),
     Reader::Call(Call::Kept(Kept::Integer)),
     Reader::Call(Call::Kept(Kept::Unsigned)),
     Reader::Call(Call::Kept(Kept::Identifier)),

@@ -13,7 +13,7 @@ use lines::calls::{Answer, CALLS, Call, OWN, TakeStep, Use, error_kind};
 use lines::row::{Row, row_of};
 use lines::tally::{Differing, Tally};
 use std::alloc::{AllocError, Global};
-use support::calls::{Inside, Take, take_by};
+use support::calls::{Answer as Found, Inside, Take, Typed, ask_typed, take_by};
 use support::sip::Sip;
 
 /// Skips the values, two at most.
@@ -151,77 +151,34 @@ impl Inside for Used {
     }
 }
 
-/// Makes a call that takes a boolean or a null, or skips the INTEGER of a number.
-#[tactic(auto, using(bcder::specs::laws::Moved::steps))]
-fn take_known<S: Source>(
-    cons: &mut Constructed<'_, S>,
-    call: Call,
-    number: u8,
-) -> Result<Option<Answer>, DecodeError<S::Error>>
-    ensures { Moved S.stream cons }
-{
+/// Returns the call that takes a boolean, a null or an integer, or skips this number, if it is one.
+fn typed_of(call: Call, number: u8) -> Option<Typed> {
     match call {
-        Call::Bool => Ok(Some(Answer::Truth(cons.take_bool()?))),
-        Call::OptBool => Ok(cons.take_opt_bool()?.map(|value| Answer::Truth(value))),
-        Call::Null => {
-            cons.take_null()?;
-            Ok(Some(Answer::Taken))
-        }
-        Call::OptNull => {
-            cons.take_opt_null()?;
-            Ok(Some(Answer::Taken))
-        }
-        Call::SkipU8If => {
-            cons.skip_u8_if(number)?;
-            Ok(Some(Answer::Taken))
-        }
-        _ => {
-            cons.skip_opt_u8_if(number)?;
-            Ok(Some(Answer::Taken))
-        }
-    }
-}
-
-/// Returns the answer that is a number, if there is one.
-fn number<T>(found: Option<T>) -> Option<Answer>
-where
-    u64: From<T>,
-{
-    match found {
-        Some(found) => Some(Answer::Number(u64::from(found))),
-        None => None,
-    }
-}
-
-/// Makes a call that takes an integer.
-#[tactic(auto, using(bcder::specs::laws::Moved::steps))]
-fn take_number<S: Source>(
-    cons: &mut Constructed<'_, S>,
-    call: Call,
-) -> Result<Option<Answer>, DecodeError<S::Error>>
-    ensures { Moved S.stream cons }
-{
-    match call {
-        Call::U8 => Ok(number(Some(cons.take_u8()?))),
-        Call::OptU8 => Ok(number(cons.take_opt_u8()?)),
-        Call::U16 => Ok(number(Some(cons.take_u16()?))),
-        Call::OptU16 => Ok(number(cons.take_opt_u16()?)),
-        Call::U32 => Ok(number(Some(cons.take_u32()?))),
-        Call::OptU32 => Ok(number(cons.take_opt_u32()?)),
-        Call::U64 => Ok(number(Some(cons.take_u64()?))),
-        _ => Ok(number(cons.take_opt_u64()?)),
+        Call::Bool => Some(Typed::Bool),
+        Call::OptBool => Some(Typed::OptBool),
+        Call::Null => Some(Typed::Null),
+        Call::OptNull => Some(Typed::OptNull),
+        Call::SkipU8If => Some(Typed::SkipU8If(number)),
+        Call::SkipOptU8If => Some(Typed::SkipOptU8If(number)),
+        Call::U8 => Some(Typed::U8),
+        Call::OptU8 => Some(Typed::OptU8),
+        Call::U16 => Some(Typed::U16),
+        Call::OptU16 => Some(Typed::OptU16),
+        Call::U32 => Some(Typed::U32),
+        Call::OptU32 => Some(Typed::OptU32),
+        Call::U64 => Some(Typed::U64),
+        Call::OptU64 => Some(Typed::OptU64),
+        _ => None,
     }
 }
 
 /// Returns the answer of a call that took a value with this tag, or skipped this number.
-fn of_known<E: Drop>(
-    outcome: Result<Option<Answer>, DecodeError<E>>,
-    tag: Tag,
-    number: u8,
-) -> Answer {
+fn of_known<E: Drop>(outcome: Result<Found, DecodeError<E>>, tag: Tag, number: u8) -> Answer {
     match outcome {
-        Ok(Some(answer)) => answer,
-        Ok(None) => Answer::Absent,
+        Ok(Found::Truth(truth)) => Answer::Truth(truth),
+        Ok(Found::Number(number)) => Answer::Number(number as u64),
+        Ok(Found::Passed) => Answer::Taken,
+        Ok(_) => Answer::Absent,
         Err(error) => match error.content_error() {
             Some(ContentError::ExpectedInteger(found)) if *found == number => Answer::Another,
             _ => error_kind(&error, tag),
@@ -271,25 +228,10 @@ pub fn perform<S: Source>(cons: &mut Constructed<'_, S>, step: TakeStep) -> Answ
     if let Some(call) = take_of(step.call) {
         return take(cons, call, step);
     }
+    if let Some(typed) = typed_of(step.call, step.number) {
+        return of_known(ask_typed(cons, typed), step.tag, step.number);
+    }
     match step.call {
-        Call::Bool
-        | Call::OptBool
-        | Call::Null
-        | Call::OptNull
-        | Call::SkipU8If
-        | Call::SkipOptU8If => of_known(
-            take_known(cons, step.call, step.number),
-            step.tag,
-            step.number,
-        ),
-        Call::U8
-        | Call::OptU8
-        | Call::U16
-        | Call::OptU16
-        | Call::U32
-        | Call::OptU32
-        | Call::U64
-        | Call::OptU64 => of_known(take_number(cons, step.call), step.tag, step.number),
         Call::Walk => of_option(walk(cons), step.tag),
         _ => {
             cons.set_mode(Mode::Ber);

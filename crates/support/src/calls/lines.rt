@@ -204,13 +204,13 @@ const LARGER: &[Call] = &[
 const SMALLER: &[Call] = &[
     Call::Typed(Typed::U8),
     Call::Typed(Typed::OptU8),
-    Call::Typed(Typed::SkipU8If),
-    Call::Typed(Typed::SkipOptU8If),
+    Call::Typed(Typed::SkipU8If(5)),
+    Call::Typed(Typed::SkipOptU8If(5)),
 ];
 
 const SKIPS_IF: &[Call] = &[
-    Call::Typed(Typed::SkipU8If),
-    Call::Typed(Typed::SkipOptU8If),
+    Call::Typed(Typed::SkipU8If(5)),
+    Call::Typed(Typed::SkipOptU8If(5)),
 ];
 
 const TYPED_OPTIONAL: &[Call] = &[
@@ -222,7 +222,10 @@ const TYPED_OPTIONAL: &[Call] = &[
 ];
 
 /// Calls that don't say whether a value was there.
-const TYPED_UNTOLD: &[Call] = &[Call::Typed(Typed::OptNull), Call::Typed(Typed::SkipOptU8If)];
+const TYPED_UNTOLD: &[Call] = &[
+    Call::Typed(Typed::OptNull),
+    Call::Typed(Typed::SkipOptU8If(5)),
+];
 
 const TYPED_NEEDED: &[Call] = &[
     Call::Typed(Typed::Bool),
@@ -231,7 +234,7 @@ const TYPED_NEEDED: &[Call] = &[
     Call::Typed(Typed::U16),
     Call::Typed(Typed::U32),
     Call::Typed(Typed::U64),
-    Call::Typed(Typed::SkipU8If),
+    Call::Typed(Typed::SkipU8If(5)),
 ];
 
 /// Booleans, nulls and integers. For integers the answer says whether they are 5.
@@ -261,7 +264,7 @@ pub const TYPED: [Line; 18] = [
         Mode::Der,
         &[0x02, 0x01, 0x05, 0x05, 0x00],
         NUMBERS,
-        Answer::Truth(true),
+        Answer::Number(5),
         2,
     ),
     (
@@ -275,14 +278,14 @@ pub const TYPED: [Line; 18] = [
         Mode::Ber,
         &[0x02, 0x82, 0x00, 0x01, 0x05, 0x05, 0x00],
         NUMBERS,
-        Answer::Truth(true),
+        Answer::Number(5),
         2,
     ),
     (
         Mode::Der,
         &[0x02, 0x02, 0x01, 0x00, 0x05, 0x00],
         LARGER,
-        Answer::Truth(false),
+        Answer::Number(256),
         2,
     ),
     (

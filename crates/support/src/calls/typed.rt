@@ -4,7 +4,7 @@ ghost use Rattle.bcder.specs.calls.Views.{Moved};
 use super::answer::{Answer, truth};
 use bcder::decode::{Constructed, DecodeError, Source};
 
-/// A call that takes a boolean, a null or an integer.
+/// A call that takes a boolean, a null or an integer, or skips this number.
 #[derive(Clone, Copy)]
 pub enum Typed {
     Bool,
@@ -19,52 +19,60 @@ pub enum Typed {
     OptU32,
     U64,
     OptU64,
-    SkipU8If,
-    SkipOptU8If,
+    SkipU8If(u8),
+    SkipOptU8If(u8),
 }
 
-/// The number that is asked for.
-const FIVE: u8 = 5;
-
-/// Takes a value, and returns the boolean, or whether the number is 5.
+/// Takes an integer.
 fn take<S: Source>(
     cons: &mut Constructed<'_, S>,
     typed: Typed,
-) -> Result<bool, DecodeError<S::Error>>
+) -> Result<u64, DecodeError<S::Error>>
     ensures { Moved S.stream cons }
 {
     match typed {
-        Typed::U8 => Ok(cons.take_u8()? == FIVE),
-        Typed::U16 => Ok(cons.take_u16()? == u16::from(FIVE)),
-        Typed::U32 => Ok(cons.take_u32()? == u32::from(FIVE)),
-        Typed::U64 => Ok(cons.take_u64()? == u64::from(FIVE)),
-        _ => cons.take_bool(),
+        Typed::U8 => Ok(u64::from(cons.take_u8()?)),
+        Typed::U16 => Ok(u64::from(cons.take_u16()?)),
+        Typed::U32 => Ok(u64::from(cons.take_u32()?)),
+        _ => cons.take_u64(),
     }
 }
 
-/// Returns whether a number is 5, if there is one.
-fn is_five<T>(number: Option<T>) -> Option<bool>
+/// Returns a number as a `u64`, if there is one.
+fn widened<T>(number: Option<T>) -> Option<u64>
 where
     u64: From<T>,
 {
     match number {
-        Some(number) => Some(u64::from(number) == 5),
+        Some(number) => Some(u64::from(number)),
         None => None,
     }
 }
 
-/// Takes a value if it is there, and returns the boolean, or whether the number is 5.
+/// Takes an integer if it is there.
 fn take_opt<S: Source>(
+    cons: &mut Constructed<'_, S>,
+    typed: Typed,
+) -> Result<Option<u64>, DecodeError<S::Error>>
+    ensures { Moved S.stream cons }
+{
+    match typed {
+        Typed::OptU8 => Ok(widened(cons.take_opt_u8()?)),
+        Typed::OptU16 => Ok(widened(cons.take_opt_u16()?)),
+        Typed::OptU32 => Ok(widened(cons.take_opt_u32()?)),
+        _ => cons.take_opt_u64(),
+    }
+}
+
+/// Takes a boolean.
+fn take_truth<S: Source>(
     cons: &mut Constructed<'_, S>,
     typed: Typed,
 ) -> Result<Option<bool>, DecodeError<S::Error>>
     ensures { Moved S.stream cons }
 {
     match typed {
-        Typed::OptU8 => Ok(is_five(cons.take_opt_u8()?)),
-        Typed::OptU16 => Ok(is_five(cons.take_opt_u16()?)),
-        Typed::OptU32 => Ok(is_five(cons.take_opt_u32()?)),
-        Typed::OptU64 => Ok(is_five(cons.take_opt_u64()?)),
+        Typed::Bool => Ok(Some(cons.take_bool()?)),
         _ => cons.take_opt_bool(),
     }
 }
@@ -76,12 +84,13 @@ fn skip<S: Source>(cons: &mut Constructed<'_, S>, typed: Typed) -> Result<(), De
     match typed {
         Typed::Null => cons.take_null(),
         Typed::OptNull => cons.take_opt_null(),
-        Typed::SkipU8If => cons.skip_u8_if(FIVE),
-        _ => cons.skip_opt_u8_if(FIVE),
+        Typed::SkipU8If(number) => cons.skip_u8_if(number),
+        Typed::SkipOptU8If(number) => cons.skip_opt_u8_if(number),
+        _ => Ok(()),
     }
 }
 
-/// Makes the call, and returns its answer. For a number it says whether it is 5.
+/// Makes the call, and returns its answer.
 pub fn ask<S: Source>(
     cons: &mut Constructed<'_, S>,
     typed: Typed,
@@ -89,11 +98,15 @@ pub fn ask<S: Source>(
     ensures { Moved S.stream cons }
 {
     match typed {
-        Typed::Bool | Typed::U8 | Typed::U16 | Typed::U32 | Typed::U64 => {
-            Ok(Answer::Truth(take(cons, typed)?))
+        Typed::Bool | Typed::OptBool => Ok(truth(take_truth(cons, typed)?)),
+        Typed::U8 | Typed::U16 | Typed::U32 | Typed::U64 => {
+            Ok(Answer::Number(take(cons, typed)? as usize))
         }
-        Typed::OptBool | Typed::OptU8 | Typed::OptU16 | Typed::OptU32 | Typed::OptU64 => {
-            Ok(truth(take_opt(cons, typed)?))
+        Typed::OptU8 | Typed::OptU16 | Typed::OptU32 | Typed::OptU64 => {
+            match take_opt(cons, typed)? {
+                Some(number) => Ok(Answer::Number(number as usize)),
+                None => Ok(Answer::Absent),
+            }
         }
         _ => {
             skip(cons, typed)?;
