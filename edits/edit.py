@@ -52,7 +52,9 @@ class Crate:
             return None
         # Of `impl Oid<Vec<u8>>` the report has `Oid+Vec+u8`.
         plain = lambda it: it.replace("+", "").replace("Any", "").lower()
-        found = [it for it in states if plain(it).endswith(f"::{name}".lower()) and "::fn::" not in it]
+        # An impl whose name a type has already is called `ValidityPartsImpl`.
+        ends = (f"::{name}".lower(), f"::{'Impl::'.join(name.rsplit('::', 1))}".lower())
+        found = [it for it in states if plain(it).endswith(ends) and "::fn::" not in it]
         found = [it for it in found if it.startswith(start)] or found
         return found[0] if len(found) == 1 else None
 
