@@ -39,7 +39,7 @@ impl fmt::Display for Colons<'_> {
     }
 }
 
-/// The same with capital letters, as keys are told apart by.
+/// Octets in hexadecimal with capital letters and colons, as identifiers of keys are shown.
 #[derive(Clone, Copy)]
 pub(crate) struct Capitals<'a>(pub(crate) &'a [u8]);
 
