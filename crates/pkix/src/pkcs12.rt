@@ -283,12 +283,5 @@ impl EncodeParts for SafeBag {
         <SafeBagParts>::is_read_back(tag, mode);
     }
 
-    ghost made = { λ v. (
-      record {
-        bag_id = v.0;
-        bag_value = v.1;
-        bag_attributes = v.2;
-      },
-      refl,
-    ) };
+    ghost made = { λ v. (record { bag_id = v.0; bag_value = v.1; bag_attributes = v.2 }, refl) };
 }
