@@ -1,7 +1,7 @@
 -- What a capture of the next value, or of all values, holds.
 use Rattle.std.proofs.Common.{◌≡◌, ◌≢◌, ℕ, ◌<◌, ◌≤◌, ◌||◌, Bool, true, false, List, [], ◌∷◌, ◌++◌, length, Option, Some, None, refl}
 use Rattle.std.proofs.Common.{sym, ap, ◌∙◌, subst, append_assoc, append-nil, length-append, arith, inl, inr}
-use Rattle.std.specs.Prelude.{Result, Ok, Err, IsOkAnd, IsErrAnd, IsOk, IfOk, IfErr, IsSomeAnd, IsTrue, is_none}
+use Rattle.std.specs.Prelude.{Result, Ok, Err, IsErrAnd, IfOk, IfErr}
 use Rattle.std.specs.Borrow.{MutBor}
 use Rattle.std.proofs.lemmas.List.{append_cancel_right}
 use Rattle.bcder.specs.declared.mode.Mode.{Mode}
@@ -17,11 +17,11 @@ use Rattle.bcder.specs.x690.Grammar.{IsOnly}
 use Rattle.bcder.specs.calls.Stream.{Grew}
 use Rattle.bcder.specs.calls.Captured.{Kept, AreWhole}
 use Rattle.bcder.specs.calls.Capturing.{IsCaptureOf, Captures, RefusesCapture, RefusesLeft, by_content, by_source, by_memory}
-use Rattle.bcder.specs.calls.CapturingValues.{RefusesWhere, failed, source, nothing, memory, WantsMemory, CapturesBy, PassesBy, LeadDeep, BeginsDeep}
+use Rattle.bcder.specs.calls.CapturingValues.{RefusesWhere, failed, source, nothing, memory, CapturesBy, PassesBy, LeadDeep, BeginsDeep}
 use Rattle.bcder.specs.calls.CapturingValues.{HasValueOrDeep, of_value, of_depth, HasValuesOrDeep, MetDeep, CapturesValue, HasNoValue, HasNoNext}
-use Rattle.bcder.specs.calls.CapturingValues.{CapturesNext, AnswersCapture, CapturesValues, HasOthers, PassesToEnd}
+use Rattle.bcder.specs.calls.CapturingValues.{CapturesNext, CapturesValues, HasOthers, PassesToEnd}
 use Rattle.bcder.specs.calls.Content.{Reading, ContentForm, octets, values, Octets, IndefiniteValues, label, Closes, Moves, Whole, Falls}
-use Rattle.bcder.specs.calls.Content.{HasMarker, EndsBefore, EndsAt, NotAtEnd, IsDone, IsUsedUp, any, RefusesHeader}
+use Rattle.bcder.specs.calls.Content.{HasMarker, EndsAt, NotAtEnd, IsDone, IsUsedUp, any, RefusesHeader}
 use Rattle.bcder.specs.calls.Calls.{Answered}
 use Rattle.bcder.specs.calls.Decoding.{by_closure, left_failed}
 use Rattle.bcder.specs.calls.Walking.{HasValue, PassesValue, ClosesBefore, HasValues, Walks}
@@ -35,7 +35,7 @@ use Rattle.bcder.proofs.Entering.{Within, looked_failed}
 use Rattle.bcder.proofs.ContentSteps.{next_refused}
 use Rattle.bcder.proofs.Stopping.{walk_stopped}
 use Rattle.bcder.proofs.Naming.{Alike, looked_alike, ends_alike, front_named}
-use Rattle.bcder.proofs.WalkSteps.{value_not_at_end, value_once, moves_faults, grew_from, walks_refused, done_here}
+use Rattle.bcder.proofs.WalkSteps.{value_not_at_end, moves_faults, grew_from, walks_refused, done_here}
 
 -- ---- the same of content that resembles
 
@@ -177,18 +177,6 @@ holds_value view post c d k h v f =
       stays = o;
     }
 
--- where it stands in front it is captured, unless the source failed or memory was wanted
-pub exactly_one : {X : Type 0} (c d : Reading) (r : Result Kept (DecodeError X)) → CapturesBy CapturesValue HasNoValue HasValueOrDeep c r d
-    → (Grew c.stream.faults d.stream.faults → ⊥) → (WantsMemory r → ⊥) → (t : Tree) (w after : List ℕ) → HasValue c t w after → IsOkAnd r (λ k. k.octets ≡ w)
-exactly_one c d (Ok k) h g m t w after v = (let s = value_once c h.captured.tree t k.octets w d.stream.rest after h.captured.has v in s.front)
-exactly_one c d (Err e) h g m t w after v = absurd (refuted h.refused)
-  where
-    refuted : RefusesWhere (HasNoValue c) (HasValueOrDeep c) c e d → ⊥
-    refuted (failed s o) = open_not_failed c.state v.usable s
-    refuted (source k x) = g x
-    refuted (nothing n o) = n.none t w after v
-    refuted (memory k x) = m k
-
 -- ---- the next value, if there is one
 
 -- content c, failed
@@ -285,38 +273,6 @@ next_stopped why s e c d w k h f m a = record {
     walked (walking.RefusesWalk.nothing x n y o) =
         nothing (record { usable = x; some = y; none = record { none = λ t v after z. n.none t v after z.encodes z.rest } }) o
 
--- a value that comes next is captured, unless the source failed or memory was wanted, and the end is found
-module _ {X : Type 0} (c d : Reading) (w : Within c) where
-  pub exactly_next : (r : Result (Option Kept) (DecodeError X)) → CapturesNext c r d → (Grew c.stream.faults d.stream.faults → ⊥) → AnswersCapture c r
-  exactly_next r h g = record { found = found r h; ended = ended r h }
-    where
-      found : (r : Result (Option Kept) (DecodeError X)) → CapturesNext c r d → (t : Tree) (v after : List ℕ) → HasValue c t v after → (WantsMemory r → ⊥)
-          → IsOkAnd r (λ o. IsSomeAnd o (λ k. k.octets ≡ v))
-      found (Ok (Some k)) h t v after z m = (let s = value_once c h.captured.tree t k.octets v d.stream.rest after h.captured.has z in s.front)
-      found (Ok None) h t v after z m = absurd ((value_not_at_end c w t v after z).none d.stream.rest h.end)
-      found (Err e) h t v after z m = absurd (refuted h.refused)
-        where
-          refuted : RefusesWhere (HasNoNext c) (HasValueOrDeep c) c e d → ⊥
-          refuted (failed x o) = open_not_failed c.state z.usable x
-          refuted (source x y) = g y
-          refuted (nothing n o) = n.none.none t v after z
-          refuted (memory x n) = m x
-
-      ended : (r : Result (Option Kept) (DecodeError X)) → CapturesNext c r d → (after : List ℕ) → EndsBefore c after → IsOkAnd r (λ o. IsTrue (is_none o))
-      ended (Ok None) h after z = refl
-      ended (Ok (Some k)) h after z = absurd ((value_not_at_end c w h.captured.tree k.octets d.stream.rest h.captured.has).none after z)
-      ended (Err e) h after z = absurd (refuted h.refused)
-        where
-          met : HasValueOrDeep c → ⊥
-          met (of_value t v x y) = (value_not_at_end c w t v x y).none after z
-          met (of_depth b) = b.some.none after z
-
-          refuted : RefusesWhere (HasNoNext c) (HasValueOrDeep c) c e d → ⊥
-          refuted (failed x o) = elim z [ inl y ↦ (let q : Failed ≡ Ended = sym x ∙ y in cc) | inr y ↦ open_not_failed c.state y.0 x ]
-          refuted (source x y) = g y
-          refuted (nothing n o) = n.some.none after z
-          refuted (memory x n) = met n
-
 -- ---- all values
 
 falls_to_none : (o : Option ℕ) (n : ℕ) → Falls o n (Some 0) → o ≡ Some n
@@ -407,24 +363,6 @@ module _ {C X : Type 0} (view : C → Reading) (post : MutBor C → Result (Unit
     mode = same_mode;
     start = h.start;
   }
-
--- they are captured where the rest up to the end is encodings, unless the source failed or memory was wanted
-pub exactly_all : {X : Type 0} (c d : Reading) (r : Result Kept (DecodeError X)) → CapturesBy CapturesValues HasOthers HasValuesOrDeep c r d
-    → (Grew c.stream.faults d.stream.faults → ⊥) → (WantsMemory r → ⊥) → (HasValues c → c.state ≡ Open → IsOk r) × (c.state ≡ Ended → IsOk r)
-exactly_all c d (Ok k) h g m = (λ v o. refl, λ e. refl)
-exactly_all c d (Err e) h g m = (λ v o. absurd (refuted v o h.refused), λ s. absurd (not_ended s h.refused))
-  where
-    refuted : HasValues c → c.state ≡ Open → RefusesWhere (HasOthers c) (HasValuesOrDeep c) c e d → ⊥
-    refuted v o (failed s a) = open_not_failed c.state o s
-    refuted v o (source k x) = g x
-    refuted v o (nothing n a) = n.none v
-    refuted v o (memory k x) = m k
-
-    not_ended : c.state ≡ Ended → RefusesWhere (HasOthers c) (HasValuesOrDeep c) c e d → ⊥
-    not_ended s (failed x a) = (let y : Ended ≡ Failed = sym s ∙ x in cc)
-    not_ended s (source k x) = g x
-    not_ended s (nothing n a) = open_not_ended c.state n.usable s
-    not_ended s (memory k x) = m k
 
 -- ---- what a capture wants memory for
 

@@ -1,6 +1,6 @@
 -- When the next value is captured, and when all values up to the end of content are.
-use Rattle.std.specs.Prelude.{◌≡◌, ◌≢◌, ◌⊎◌, ℕ, ◌≤◌, true, List, [], ◌∷◌, ◌++◌, Option, Result, IsOkAnd, IsErrAnd, IfOk}
-use Rattle.std.specs.Prelude.{IfErr, IfSome, IfNone, IsSomeAnd, OnOk, OnErr, IsOk, IsTrue, is_none}
+use Rattle.std.specs.Prelude.{◌≡◌, ◌≢◌, ◌⊎◌, ℕ, ◌≤◌, true, List, [], ◌∷◌, ◌++◌, Option, Result, IfOk}
+use Rattle.std.specs.Prelude.{IfErr, IfSome, IfNone, OnOk, OnErr}
 use Rattle.std.specs.Borrow.{MutBor}
 use denote.Triple.Both.{Both}
 use Rattle.bcder.specs.declared.decode.content.Constructed.{Constructed}
@@ -14,7 +14,7 @@ use Rattle.bcder.specs.x690.Preorder.{Heading, preorder}
 use Rattle.bcder.specs.x690.Grammar.{IsOnly}
 use Rattle.bcder.specs.calls.Stream.{Stream, Grew}
 use Rattle.bcder.specs.calls.Captured.{Kept, AreWhole}
-use Rattle.bcder.specs.calls.Content.{Reading, Octets, Closes, EndsBefore, EndsAt, IsDone, NotAtEnd, any, NamesFront}
+use Rattle.bcder.specs.calls.Content.{Reading, Octets, Closes, EndsAt, IsDone, NotAtEnd, any, NamesFront}
 use Rattle.bcder.specs.calls.Skipping.{HeadersFrom, GoesDeep}
 use Rattle.bcder.specs.calls.Walking.{HasValue, PassesValue, ClosesBefore, HasValues, Walks}
 use Rattle.bcder.specs.calls.Views.{before, after}
@@ -34,10 +34,6 @@ pub data RefusesWhere {X : Type 0} (HasNone HasSome : Type 0) (c : Reading) (e :
   source : cause_of e ≡ of_source → Grew c.stream.faults d.stream.faults → RefusesWhere HasNone HasSome c e d
   nothing : HasNone → NamesFront any (cause_of e) c → RefusesWhere HasNone HasSome c e d
   memory : cause_of e ≡ of_memory → HasSome → RefusesWhere HasNone HasSome c e d
-
--- memory ran out
-abbrev pub WantsMemory : {T X : Type 0} → Result T (DecodeError X) → Type 0
-WantsMemory r = IsErrAnd r (λ e. cause_of e ≡ of_memory)
 
 -- octets were captured, as Q says, or not, as when there is none of what is asked for; memory runs out only if there is some
 pub record CapturesBy {X : Type 0} (Q : Reading → Kept → Reading → Type 0) (HasNone HasSome : Reading → Type 0) (c : Reading)
@@ -116,11 +112,6 @@ pub record CapturesNext {X : Type 0} (c : Reading) (r : Result (Option Kept) (De
   pub mode : d.mode ≡ c.mode
   pub marked : d.marked ≡ c.marked
 
--- what is returned if a value comes next, unless memory ran out, and what at the end
-pub record AnswersCapture {X : Type 0} (c : Reading) (r : Result (Option Kept) (DecodeError X)) : Type 0 where
-  pub found : (t : Tree) (w after : List ℕ) → HasValue c t w after → (WantsMemory r → ⊥) → IsOkAnd r (λ o. IsSomeAnd o (λ k. k.octets ≡ w))
-  pub ended : (after : List ℕ) → EndsBefore c after → IsOkAnd r (λ o. IsTrue (is_none o))
-
 -- ---- all values
 
 -- the rest of open content, up to its end, is not encodings of values
@@ -176,29 +167,14 @@ module _ {S : Type 0} (stream : S → Stream) (c : Both (MutBor (Constructed S))
     abbrev pub CapturedOne : Type 0
     CapturedOne = CapturesBy CapturesValue HasNoValue HasValueOrDeep (before stream c) r (after stream c)
 
-    -- unless the source failed or memory ran out, the next value is captured if there is one
-    abbrev pub ExactlyOne : Type 0
-    ExactlyOne = (Grew (before stream c).stream.faults (after stream c).stream.faults → ⊥) → (WantsMemory r → ⊥)
-        → (t : Tree) (w after : List ℕ) → HasValue (before stream c) t w after → IsOkAnd r (λ k. k.octets ≡ w)
-
     -- all values were captured, or why they were not
     abbrev pub CapturedAll : Type 0
     CapturedAll = CapturesBy CapturesValues HasOthers HasValuesOrDeep (before stream c) r (after stream c)
-
-    -- unless the source failed or memory ran out, all values are captured if the rest up to the end is encodings,
-    -- or if the content has ended
-    abbrev pub CapturesExactlyAll : Type 0
-    CapturesExactlyAll = (Grew (before stream c).stream.faults (after stream c).stream.faults → ⊥) → (WantsMemory r → ⊥)
-        → (HasValues (before stream c) → (before stream c).state ≡ Open → IsOk r) × ((before stream c).state ≡ Ended → IsOk r)
 
   module _ {X : Type 0} (r : Result (Option Kept) (DecodeError X)) where
     -- the next value was captured, or content was at its end, or why it was neither
     abbrev pub CapturedNext : Type 0
     CapturedNext = CapturesNext (before stream c) r (after stream c)
-
-    -- unless the source failed or memory ran out, Some is returned exactly if a value comes next, and None exactly at the end
-    abbrev pub ExactlyNextCaptured : Type 0
-    ExactlyNextCaptured = (Grew (before stream c).stream.faults (after stream c).stream.faults → ⊥) → AnswersCapture (before stream c) r
 
   abbrev pub PassedOne : {T X : Type 0} → Result T (DecodeError X) → Type 0
   PassedOne r = PassesBy PassesValue HasNoValue BeginsDeep (before stream c) r (after stream c)
