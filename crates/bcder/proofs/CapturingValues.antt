@@ -17,14 +17,15 @@ use Rattle.bcder.specs.x690.Grammar.{IsOnly}
 use Rattle.bcder.specs.calls.Stream.{Grew}
 use Rattle.bcder.specs.calls.Captured.{Kept, AreWhole}
 use Rattle.bcder.specs.calls.Capturing.{IsCaptureOf, Captures, RefusesCapture, RefusesLeft, by_content, by_source, by_memory}
-use Rattle.bcder.specs.calls.CapturingValues.{RefusesWhere, failed, source, nothing, memory, CapturesBy, PassesBy, LeadDeep, BeginsDeep}
-use Rattle.bcder.specs.calls.CapturingValues.{HasValueOrDeep, of_value, of_depth, HasValuesOrDeep, MetDeep, CapturesValue, HasNoValue, HasNoNext}
+use Rattle.bcder.specs.calls.Refusals.{Refuses, failed, source, nothing, memory}
+use Rattle.bcder.specs.calls.CapturingValues.{CapturesBy, PassesBy, LeadDeep, BeginsDeep}
+use Rattle.bcder.specs.calls.CapturingValues.{HasValueOrDeep, of_value, of_depth, HasValuesOrDeep, MetDeep, CapturesValue}
 use Rattle.bcder.specs.calls.CapturingValues.{CapturesNext, CapturesValues, HasOthers, PassesToEnd}
 use Rattle.bcder.specs.calls.Content.{Reading, ContentForm, octets, values, Octets, IndefiniteValues, label, Closes, Moves, Whole, Falls}
 use Rattle.bcder.specs.calls.Content.{HasMarker, EndsAt, NotAtEnd, IsDone, IsUsedUp, any, RefusesHeader}
 use Rattle.bcder.specs.calls.Calls.{Answered}
 use Rattle.bcder.specs.calls.Decoding.{by_closure, left_failed}
-use Rattle.bcder.specs.calls.Walking.{HasValue, PassesValue, ClosesBefore, HasValues, Walks}
+use Rattle.bcder.specs.calls.Walking.{HasNoNext, HasNoValue, HasValue, PassesValue, ClosesBefore, HasValues, Walks}
 use Rattle.bcder.specs.calls.Walking as walking
 use Rattle.bcder.specs.calls.Skipping.{RefusesOne, GoesDeep}
 use Rattle.bcder.specs.calls.Skipping as skipping
@@ -78,12 +79,12 @@ module _ (c i : Reading) (h : IsCaptureOf c i) where
   others_of n = record { usable = sym h.state ∙ n.usable; none = λ v. n.none (values_of v) }
 
 -- what is refused of the content inside is refused of that around it
-where_of : {X : Type 0} (P Q D E : Type 0) → (P → Q) → (D → E) → (c i j d : Reading) (e : DecodeError X) → Alike c i → i.stream.faults ≡ c.stream.faults
-    → d.stream.faults ≡ j.stream.faults → RefusesWhere P D i e j → RefusesWhere Q E c e d
-where_of P Q D E f g c i j d e s a b (failed x o) = failed (sym s.state ∙ x) o
-where_of P Q D E f g c i j d e s a b (source k y) = source k (rw (← a, b) y)
-where_of P Q D E f g c i j d e s a b (nothing n o) = nothing (f n) (front_named c i s (cause_of e) o)
-where_of P Q D E f g c i j d e s a b (memory m n) = memory m (g n)
+where_of : {X : Type 0} (P Q D E : Reading → Type 0) (c i j d : Reading) → (P i → Q c) → (D i → E c) → (e : DecodeError X) → Alike c i
+    → i.stream.faults ≡ c.stream.faults → d.stream.faults ≡ j.stream.faults → Refuses cause_of any P D i e j → Refuses cause_of any Q E c e d
+where_of P Q D E c i j d f g e s a b (failed x o) = failed (sym s.state ∙ x) o
+where_of P Q D E c i j d f g e s a b (source k y) = source k (rw (← a, b) y)
+where_of P Q D E c i j d f g e s a b (nothing n o) = nothing (f n) (front_named c i s (cause_of e) o)
+where_of P Q D E c i j d f g e s a b (memory m n) = memory m (g n)
 
 pub end_has_none : (c d : Reading) → Within c → EndsAt c d → HasNoValue c
 end_has_none c d w e = record { none = λ t v after h. (value_not_at_end c w t v after h).none d.stream.rest e }
@@ -112,9 +113,9 @@ module _ {C X : Type 0} (view : C → Reading) (post : MutBor C → Result (Unit
   left_mark i j e n (by_memory a u k s f) = (did i j (Ok tt) a).marked
 
   refused_left : (c i j d : Reading) (e : DecodeError X) → IsCaptureOf c i → Moves i j → RefusesLeft view post i e j d.stream.faults
-      → RefusesWhere (HasNone c) (HasSome c) c e d
+      → Refuses cause_of any HasNone HasSome c e d
   refused_left c i j d e h v (by_content (by_closure a) f) =
-      where_of _ _ _ _ (around c i h) (deep_around c i h) c i j d e (capture_alike c i h) h.faults f (did i j (Err e) a).refused
+      where_of _ _ _ _ c i j d (around c i h) (deep_around c i h) e (capture_alike c i h) h.faults f (did i j (Err e) a).refused
   refused_left c i j d e h v (by_content (left_failed x a s o) f) = absurd (usable i j (did i j (Ok x) a).passed s)
   refused_left c i j d e h v (by_source a u k g) = source k (subst (λ z. Grew z d.stream.faults) ((did i j (Ok tt) a).no_fault ∙ h.faults) g)
   refused_left c i j d e h v (by_memory a u k s f) = memory k (some_around c i j h v (did i j (Ok tt) a).passed s)
@@ -230,7 +231,7 @@ module _ (c i : Reading) (g : GoesOn c i) where
         end = tt;
         done = tt;
         no_fault = tt;
-        refused = where_of _ _ _ _ none_first some_first c i d (as_failed d) e (looked_alike c i g.same) f refl h.refused;
+        refused = where_of _ _ _ _ c i d (as_failed d) none_first some_first e (looked_alike c i g.same) f refl h.refused;
         failed = refl;
         mode = h.mode ∙ g.same.mode;
         marked = h.marked ∙ g.same.marked;
@@ -267,11 +268,11 @@ next_stopped why s e c d w k h f m a = record {
   marked = a;
 }
   where
-    walked : walking.RefusesWalk cause_of c e d → RefusesWhere (HasNoNext c) (HasValueOrDeep c) c e d
-    walked (walking.RefusesWalk.failed x o) = failed x o
-    walked (walking.RefusesWalk.source x y) = source x y
-    walked (walking.RefusesWalk.nothing x n y o) =
-        nothing (record { usable = x; some = y; none = record { none = λ t v after z. n.none t v after z.encodes z.rest } }) o
+    walked : Refuses cause_of any HasNoNext (λ _. ⊥) c e d → Refuses cause_of any HasNoNext HasValueOrDeep c e d
+    walked (failed x o) = failed x o
+    walked (source x y) = source x y
+    walked (nothing n o) = nothing n o
+    walked (memory x n) = absurd n
 
 -- ---- all values
 
@@ -380,11 +381,11 @@ deep_usable c d g = g.were.usable (not_none g.calls g.last)
 pub begins_deep : (c d : Reading) → GoesDeep c d → BeginsDeep c
 begins_deep c d g = record { usable = (deep_usable c d g).0; some = (deep_usable c d g).1; leads = leads_deep c d g }
 
-pub one_refused : {X : Type 0} (c d : Reading) (e : DecodeError X) → RefusesOne cause_of c e d → RefusesWhere (HasNoValue c) (BeginsDeep c) c e d
-one_refused c d e (skipping.RefusesOne.by_walk (walking.RefusesWalk.failed s a)) = failed s a
-one_refused c d e (skipping.RefusesOne.by_walk (walking.RefusesWalk.source s f)) = source s f
-one_refused c d e (skipping.RefusesOne.by_walk (walking.RefusesWalk.nothing s n f a)) =
-    nothing (record { none = λ t w after v. n.none t w after v.encodes v.rest }) a
+pub one_refused : {X : Type 0} (c d : Reading) (e : DecodeError X) → RefusesOne cause_of c e d → Refuses cause_of any HasNoValue BeginsDeep c e d
+one_refused c d e (skipping.RefusesOne.by_walk (failed s a)) = failed s a
+one_refused c d e (skipping.RefusesOne.by_walk (source s f)) = source s f
+one_refused c d e (skipping.RefusesOne.by_walk (nothing n a)) = nothing n.none a
+one_refused c d e (skipping.RefusesOne.by_walk (memory s n)) = absurd n
 one_refused c d e (skipping.RefusesOne.by_depth g m) = memory m (begins_deep c d g)
 
 leads_of : (c i : Reading) → IsCaptureOf c i → LeadDeep i.mode i.stream.rest → LeadDeep c.mode c.stream.rest
@@ -488,27 +489,27 @@ all_deep c i h b =
     }
 
 others_left : {X : Type 0} (e : DecodeError X) (i k : Reading) → i.kind ≢ Octets → i.state ≡ Open → walking.RefusesValues cause_of i e k
-    → RefusesWhere (HasOthers i) (MetDeep i) i e k
+    → Refuses cause_of any HasOthers MetDeep i e k
 others_left e i k form o (walking.RefusesValues.failed f a) = failed f a
 others_left e i k form o (walking.RefusesValues.source s f) = source s f
 others_left e i k form o (walking.RefusesValues.broken x n a) = nothing (record { usable = o; none = n }) a
 others_left e i k form o (walking.RefusesValues.short x n a) = absurd (form x)
 
-loop_refused : {X : Type 0} (e : DecodeError X) (i j k : Reading) → i.kind ≢ Octets → Walks i j → walking.RefusesWalk cause_of j e k
-    → RefusesWhere (HasOthers i) (MetDeep i) i e k
-loop_refused e i j k form w (walking.RefusesWalk.failed f a) = failed (w.failed f) a
-loop_refused e i j k form w (walking.RefusesWalk.source s f) = source s (grew_from _ _ _ (moves_faults i j w.moves) f)
-loop_refused e i j k form w (walking.RefusesWalk.nothing s n f a) =
-    others_left e i k form (still_open i j w s) (walks_refused cause_of e i j k form w (walking.RefusesWalk.nothing s n f a))
+loop_refused : {X : Type 0} (e : DecodeError X) (i j k : Reading) → i.kind ≢ Octets → Walks i j → Refuses cause_of any HasNoNext (λ _. ⊥) j e k
+    → Refuses cause_of any HasOthers MetDeep i e k
+loop_refused e i j k form w (failed f a) = failed (w.failed f) a
+loop_refused e i j k form w (source s f) = source s (grew_from _ _ _ (moves_faults i j w.moves) f)
+loop_refused e i j k form w (nothing n a) = others_left e i k form (still_open i j w n.usable) (walks_refused cause_of e i j k form w (nothing n a))
+loop_refused e i j k form w (memory s n) = absurd n
 
 pub loop_refused_one : {X : Type 0} (e : DecodeError X) (i j k : Reading) → i.kind ≢ Octets → Walks i j → RefusesOne cause_of j e k
-    → RefusesWhere (HasOthers i) (MetDeep i) i e k
+    → Refuses cause_of any HasOthers MetDeep i e k
 loop_refused_one e i j k form w (skipping.RefusesOne.by_walk r) = loop_refused e i j k form w r
 loop_refused_one e i j k form w (skipping.RefusesOne.by_depth g m) = memory m (record { form = form; at = j; left = k; walks = w; deep = g })
 
 -- the loop answers the error that it met
 pub pass_refused : {T X : Type 0} (c d : Reading) (r : Result T (DecodeError X)) (e : DecodeError X) → IsErrAnd r (λ x. x ≡ e)
-    → RefusesWhere (HasOthers c) (MetDeep c) c e d → d.marked ≡ c.marked → PassesBy PassesToEnd HasOthers MetDeep c r d
+    → Refuses cause_of any HasOthers MetDeep c e d → d.marked ≡ c.marked → PassesBy PassesToEnd HasOthers MetDeep c r d
 pass_refused c d (Ok x) e h a g = absurd h
 pass_refused c d (Err x) e h a g =
-    record { passed = tt; no_fault = tt; refused = subst (λ y. RefusesWhere (HasOthers c) (MetDeep c) c y d) (sym h) a; marked = g }
+    record { passed = tt; no_fault = tt; refused = subst (λ y. Refuses cause_of any HasOthers MetDeep c y d) (sym h) a; marked = g }

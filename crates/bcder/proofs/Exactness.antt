@@ -10,16 +10,17 @@ use Rattle.bcder.specs.x690.Tree.{Tree}
 use Rattle.bcder.specs.x690.Preorder.{Heading, preorder}
 use Rattle.bcder.specs.calls.Stream.{Grew}
 use Rattle.bcder.specs.calls.Captured.{Kept}
-use Rattle.bcder.specs.calls.Content.{Reading, Octets, EndsBefore, EndsAt}
-use Rattle.bcder.specs.calls.Walking.{HasValue, PassesValue, RefusesWalk, PassedBy, HasValues, AllBy}
+use Rattle.bcder.specs.calls.Content.{any, Reading, Octets, EndsBefore, EndsAt}
+use Rattle.bcder.specs.calls.Walking.{HasNoNext, HasNoValue, HasValue, PassesValue, PassedBy, HasValues, AllBy}
 use Rattle.bcder.specs.calls.Walking as walking
 use Rattle.bcder.specs.calls.Skipping.{Steps, RefusesSkip, SkippedBy, SkippedValueBy, RefusesOne, RefusesSkipAll}
 use Rattle.bcder.specs.calls.Skipping as skipping
-use Rattle.bcder.specs.calls.CapturingValues.{RefusesWhere, failed, source, nothing, memory, CapturesBy, HasValueOrDeep, of_value, of_depth}
-use Rattle.bcder.specs.calls.CapturingValues.{HasValuesOrDeep, CapturesValue, HasNoValue, HasNoNext, CapturesNext, CapturesValues, HasOthers}
+use Rattle.bcder.specs.calls.CapturingValues.{CapturesBy, HasValueOrDeep, of_value, of_depth}
+use Rattle.bcder.specs.calls.CapturingValues.{HasValuesOrDeep, CapturesValue, CapturesNext, CapturesValues, HasOthers}
 use Rattle.bcder.specs.laws.Exactly.{FoundMemory, AnswersNext, AnswersAll, IsShallow, MaySkip, AnswersSkip, AnswersCapture}
 use Rattle.bcder.proofs.Moving.{open_not_ended, open_not_failed}
 use Rattle.bcder.proofs.Entering.{Within}
+use Rattle.bcder.specs.calls.Refusals.{Refuses, failed, source, nothing, memory}
 use Rattle.bcder.proofs.WalkSteps.{value_not_at_end, value_once}
 
 failed_end : (c : Reading) (after : List ℕ) → EndsBefore c after → c.state ≡ Failed → ⊥
@@ -33,18 +34,20 @@ module _ (c d : Reading) (within : Within c) (sound : Grew c.stream.faults d.str
   -- ---- passing
 
   module _ {X : Type 0} (e : DecodeError X) where
-    no_refused_value : (t : Tree) (w after : List ℕ) → HasValue c t w after → RefusesWalk cause_of c e d → ⊥
-    no_refused_value t w after h (walking.RefusesWalk.failed s a) = open_not_failed c.state h.usable s
-    no_refused_value t w after h (walking.RefusesWalk.source k s) = sound s
-    no_refused_value t w after h (walking.RefusesWalk.nothing s x y a) = x.none t w after h.encodes h.rest
+    no_refused_value : (t : Tree) (w after : List ℕ) → HasValue c t w after → Refuses cause_of any HasNoNext (λ _. ⊥) c e d → ⊥
+    no_refused_value t w after h (failed s a) = open_not_failed c.state h.usable s
+    no_refused_value t w after h (source k s) = sound s
+    no_refused_value t w after h (nothing n a) = n.none.none t w after h
+    no_refused_value t w after h (memory s n) = absurd n
 
-    no_refused_end : (after : List ℕ) → EndsBefore c after → RefusesWalk cause_of c e d → ⊥
-    no_refused_end after h (walking.RefusesWalk.failed s a) = failed_end c after h s
-    no_refused_end after h (walking.RefusesWalk.source k s) = sound s
-    no_refused_end after h (walking.RefusesWalk.nothing s x y a) = y.none after h
+    no_refused_end : (after : List ℕ) → EndsBefore c after → Refuses cause_of any HasNoNext (λ _. ⊥) c e d → ⊥
+    no_refused_end after h (failed s a) = failed_end c after h s
+    no_refused_end after h (source k s) = sound s
+    no_refused_end after h (nothing n a) = n.some.none after h
+    no_refused_end after h (memory s n) = absurd n
 
   pub answers_next : {T X : Type 0} (r : Result (Option T) (DecodeError X)) → IfOk r (λ o. IfSome o (λ _. PassesValue c d))
-      → IfOk r (λ o. IfNone o (EndsAt c d)) → IfErr r (λ e. RefusesWalk cause_of c e d) → AnswersNext c r d
+      → IfOk r (λ o. IfNone o (EndsAt c d)) → IfErr r (λ e. Refuses cause_of any HasNoNext (λ _. ⊥) c e d) → AnswersNext c r d
   answers_next (Ok None) a b n =
       record { found = λ t v after h. absurd (let z = value_not_at_end c within t v after h in z.none d.stream.rest b); ended = λ after h. refl }
   answers_next (Ok (Some x)) a b n = record {
@@ -54,11 +57,11 @@ module _ (c d : Reading) (within : Within c) (sound : Grew c.stream.faults d.str
   answers_next (Err e) a b n =
       record { found = λ t v after h. absurd (no_refused_value e t v after h n); ended = λ after h. absurd (no_refused_end e after h n) }
 
-  pub walked_exactly : {T X : Type 0} (r : Result (Option T) (DecodeError X)) → PassedBy (RefusesWalk cause_of) c r d → AnswersNext c r d
+  pub walked_exactly : {T X : Type 0} (r : Result (Option T) (DecodeError X)) → PassedBy (Refuses cause_of any HasNoNext (λ _. ⊥)) c r d → AnswersNext c r d
   walked_exactly r p = answers_next r p.value p.end p.refused
 
   -- if memory was found, refusals are those of a walk
-  walk_of_one : {X : Type 0} (e : DecodeError X) → (cause_of e ≡ of_memory → ⊥) → RefusesOne cause_of c e d → RefusesWalk cause_of c e d
+  walk_of_one : {X : Type 0} (e : DecodeError X) → (cause_of e ≡ of_memory → ⊥) → RefusesOne cause_of c e d → Refuses cause_of any HasNoNext (λ _. ⊥) c e d
   walk_of_one e n (skipping.RefusesOne.by_walk r) = r
   walk_of_one e n (skipping.RefusesOne.by_depth g j) = absurd (n j)
 
@@ -125,7 +128,7 @@ module _ (c d : Reading) (within : Within c) (sound : Grew c.stream.faults d.str
     capture_found (Ok None) h t v after z m = absurd ((value_not_at_end c within t v after z).none d.stream.rest h.end)
     capture_found (Err e) h t v after z m = absurd (refuted h.refused)
       where
-        refuted : RefusesWhere (HasNoNext c) (HasValueOrDeep c) c e d → ⊥
+        refuted : Refuses cause_of any HasNoNext HasValueOrDeep c e d → ⊥
         refuted (failed x o) = open_not_failed c.state z.usable x
         refuted (source x y) = sound y
         refuted (nothing n o) = n.none.none t v after z
@@ -141,7 +144,7 @@ module _ (c d : Reading) (within : Within c) (sound : Grew c.stream.faults d.str
         met (of_value t v x y) = (value_not_at_end c within t v x y).none after z
         met (of_depth b) = b.some.none after z
 
-        refuted : RefusesWhere (HasNoNext c) (HasValueOrDeep c) c e d → ⊥
+        refuted : Refuses cause_of any HasNoNext HasValueOrDeep c e d → ⊥
         refuted (failed x o) = failed_end c after z x
         refuted (source x y) = sound y
         refuted (nothing n o) = n.some.none after z
@@ -158,7 +161,7 @@ module _ {X : Type 0} (c d : Reading) (sound : Grew c.stream.faults d.stream.fau
   one_exactly (Ok k) h m t w after v = (let s = value_once c h.captured.tree t k.octets w d.stream.rest after h.captured.has v in s.front)
   one_exactly (Err e) h m t w after v = absurd (refuted h.refused)
     where
-      refuted : RefusesWhere (HasNoValue c) (HasValueOrDeep c) c e d → ⊥
+      refuted : Refuses cause_of any HasNoValue HasValueOrDeep c e d → ⊥
       refuted (failed s o) = open_not_failed c.state v.usable s
       refuted (source k x) = sound x
       refuted (nothing n o) = n.none t w after v
@@ -183,13 +186,13 @@ module _ {X : Type 0} (c d : Reading) (sound : Grew c.stream.faults d.stream.fau
   captures_all_exactly (Ok k) h m = (λ v o. refl, λ e. refl)
   captures_all_exactly (Err e) h m = (λ v o. absurd (refuted v o h.refused), λ s. absurd (not_ended s h.refused))
     where
-      refuted : HasValues c → c.state ≡ Open → RefusesWhere (HasOthers c) (HasValuesOrDeep c) c e d → ⊥
+      refuted : HasValues c → c.state ≡ Open → Refuses cause_of any HasOthers HasValuesOrDeep c e d → ⊥
       refuted v o (failed s a) = open_not_failed c.state o s
       refuted v o (source k x) = sound x
       refuted v o (nothing n a) = n.none v
       refuted v o (memory k x) = m k
 
-      not_ended : c.state ≡ Ended → RefusesWhere (HasOthers c) (HasValuesOrDeep c) c e d → ⊥
+      not_ended : c.state ≡ Ended → Refuses cause_of any HasOthers HasValuesOrDeep c e d → ⊥
       not_ended s (failed x a) = (let y : Ended ≡ Failed = sym s ∙ x in cc)
       not_ended s (source k x) = sound x
       not_ended s (nothing n a) = open_not_ended c.state n.usable s

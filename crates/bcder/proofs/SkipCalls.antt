@@ -18,8 +18,7 @@ use Rattle.bcder.specs.steps.Reading.{read_header, read_contents, read_list, rea
 use Rattle.bcder.specs.calls.Stream.{Stream, Grew, cut, past, limited}
 use Rattle.bcder.specs.calls.Content.{Reading, Octets, Resembles, any, Falls, Moves, Advances, Enters, EndsAt, IsDone, NotAtEnd}
 use Rattle.bcder.specs.x690.Grammar.{IsOnly}
-use Rattle.bcder.specs.calls.Walking.{NoValue, PassesValue, RefusesWalk, PassedBy, Walks}
-use Rattle.bcder.specs.calls.Walking as walking
+use Rattle.bcder.specs.calls.Walking.{HasNoNext, PassesValue, PassedBy, Walks}
 use Rattle.bcder.specs.calls.Skipping.{Steps, Called, WereCalls, SkipsValue, RefusesSkip, SkippedBy}
 use Rattle.bcder.specs.calls.Skipping.{SkippedValueBy, RefusesOne, RefusesSkipAll}
 use Rattle.bcder.specs.calls.Skipping as skipping
@@ -35,7 +34,10 @@ use Rattle.bcder.proofs.Moving.{moves_value, moves_failed, advances_trans, open_
 use Rattle.bcder.proofs.LimitStack.{cut_falls, past_falls, finished}
 use Rattle.bcder.proofs.Naming.{behind_header}
 use Rattle.bcder.proofs.Passing.{looked_open, looked_refused, looked_by}
-use Rattle.bcder.proofs.WalkSteps.{walks_refused}
+use Rattle.bcder.specs.calls.Refusals as refusals
+use Rattle.bcder.specs.calls.Refusals.{Refuses}
+use Rattle.bcder.specs.steps.WalkSteps.{NoValue}
+use Rattle.bcder.proofs.WalkSteps.{no_next, walks_refused}
 
 -- ---- calls that were made
 
@@ -175,10 +177,10 @@ module _ (c d e : Reading) (k : Header) (s t : Stream) (o p : Option ℕ) (withi
       (hc : IsOfContent (interrupt_cause h) → IsOfContent (why y)) (hs : interrupt_cause h ≡ of_source → why y ≡ of_source)
       (hm : interrupt_cause h ≡ of_memory → why y ≡ of_memory) (hx : (z : ContentError) → h ≡ interrupt.Closure z → why y ≡ of_content z) where
     refused_by : Breaks step c.mode k s o f h g t p → RefusesSkip why step c f y g e
-    refused_by (by_source calls called b j z) = skipping.RefusesSkip.by_content (heading k 0 ∷ calls) called (broken_calls calls b) (walking.RefusesWalk.source
+    refused_by (by_source calls called b j z) = skipping.RefusesSkip.by_content (heading k 0 ∷ calls) called (broken_calls calls b) (refusals.Refuses.source
         (hs j) (subst (λ n. Grew n e.stream.faults) (ap (λ q. q.faults) (sym ds) ∙ nf) (subst (λ n. Grew s.faults n) (ap (λ q. q.faults) (sym es)) z)))
     refused_by (by_content calls called b n j) = skipping.RefusesSkip.by_content (heading k 0 ∷ calls) called (broken_calls calls b)
-        (walking.RefusesWalk.nothing x.usable (nothing_there n) not_at_end (behind_header any c (why y) (hc j) d.stream.rest (header_entered c k d any refl x)))
+        (refusals.Refuses.nothing (no_next c x.usable (nothing_there n) not_at_end) (behind_header any c (why y) (hc j) d.stream.rest (header_entered c k d any refl x)))
     refused_by (by_closure calls before last q z is called r b j) =
         skipping.RefusesSkip.by_closure before last q z called r (same_calls c e (heading k 0 ∷ calls) (before ++ last ∷ []) is (broken_calls calls b)) (hx z j)
     refused_by (by_memory calls before last is called a l b j) = skipping.RefusesSkip.by_memory before last (subst (λ z. Called step f z g) is called)
@@ -256,7 +258,7 @@ module _ {F X : Type 0} (why : X → Cause ContentError) (step : Steps F Content
   pub skipped_end : {T : Type 0} → EndsAt c d → IsDone d → d.stream.faults ≡ c.stream.faults → SkippedBy {T = T} why step c f (Ok None) f d
   skipped_end a b n = record { value = tt; end = a; done = b; uncalled = refl; no_fault = n; refused = tt; failed = tt; mode = mode; marked = marked }
 
-  pub skipped_none : {T : Type 0} (e : X) → Moves c d → RefusesWalk why c e d → d.state ≡ Failed → SkippedBy {T = T} why step c f (Err e) f d
+  pub skipped_none : {T : Type 0} (e : X) → Moves c d → Refuses why any HasNoNext (λ _. ⊥) c e d → d.state ≡ Failed → SkippedBy {T = T} why step c f (Err e) f d
   skipped_none e m r a = record {
     value = tt;
     end = tt;

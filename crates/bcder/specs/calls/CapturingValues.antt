@@ -6,17 +6,18 @@ use denote.Triple.Both.{Both}
 use Rattle.bcder.specs.declared.decode.content.Constructed.{Constructed}
 use Rattle.bcder.specs.declared.decode.content.State.TheVariants.{Open, Ended, Failed}
 use Rattle.bcder.specs.declared.decode.error.DecodeError.{DecodeError}
-use Rattle.bcder.specs.calls.Cause.{cause_of, of_source, of_memory, IsRefusal}
+use Rattle.bcder.specs.calls.Cause.{cause_of}
 use Rattle.bcder.specs.declared.mode.Mode.{Mode}
 use Rattle.bcder.specs.x690.Tree.{Tree, Trees}
 use Rattle.bcder.specs.x690.Encoding.{AreEncodings}
 use Rattle.bcder.specs.x690.Preorder.{Heading, preorder}
 use Rattle.bcder.specs.x690.Grammar.{IsOnly}
-use Rattle.bcder.specs.calls.Stream.{Stream, Grew}
+use Rattle.bcder.specs.calls.Stream.{Stream}
 use Rattle.bcder.specs.calls.Captured.{Kept, AreWhole}
-use Rattle.bcder.specs.calls.Content.{Reading, Octets, Closes, EndsAt, IsDone, NotAtEnd, any, NamesFront}
+use Rattle.bcder.specs.calls.Content.{Reading, Octets, Closes, EndsAt, IsDone, NotAtEnd, any}
 use Rattle.bcder.specs.calls.Skipping.{HeadersFrom, GoesDeep}
-use Rattle.bcder.specs.calls.Walking.{HasValue, PassesValue, ClosesBefore, HasValues, Walks}
+use Rattle.bcder.specs.calls.Refusals.{Refuses}
+use Rattle.bcder.specs.calls.Walking.{HasNoNext, HasNoValue, HasValue, PassesValue, ClosesBefore, HasValues, Walks}
 use Rattle.bcder.specs.calls.Views.{before, after}
 
 -- ---- what both leave
@@ -27,20 +28,12 @@ pub record IsAsBefore (c d : Reading) : Type 0 where
   pub owed : d.owed ≡ c.owed
   pub state : d.state ≡ c.state
 
--- why e was returned for content c: an earlier value was refused, the source failed, c has none of what is asked for,
--- or memory ran out for what it has
-pub data RefusesWhere {X : Type 0} (HasNone HasSome : Type 0) (c : Reading) (e : DecodeError X) (d : Reading) : Type 0 where
-  failed : c.state ≡ Failed → IsRefusal e → RefusesWhere HasNone HasSome c e d
-  source : cause_of e ≡ of_source → Grew c.stream.faults d.stream.faults → RefusesWhere HasNone HasSome c e d
-  nothing : HasNone → NamesFront any (cause_of e) c → RefusesWhere HasNone HasSome c e d
-  memory : cause_of e ≡ of_memory → HasSome → RefusesWhere HasNone HasSome c e d
-
 -- octets were captured, as Q says, or not, as when there is none of what is asked for; memory runs out only if there is some
 pub record CapturesBy {X : Type 0} (Q : Reading → Kept → Reading → Type 0) (HasNone HasSome : Reading → Type 0) (c : Reading)
     (r : Result Kept (DecodeError X)) (d : Reading) : Type 0 where
   pub captured : IfOk r (λ k. Q c k d)
   pub no_fault : OnOk r (d.stream.faults ≡ c.stream.faults)
-  pub refused : IfErr r (λ e. RefusesWhere (HasNone c) (HasSome c) c e d)
+  pub refused : IfErr r (λ e. Refuses cause_of any HasNone HasSome c e d)
   pub as_before : OnErr r (IsAsBefore c d)
   pub mode : d.mode ≡ c.mode
   pub marked : d.marked ≡ c.marked
@@ -50,7 +43,7 @@ pub record PassesBy {T X : Type 0} (Q : Reading → Reading → Type 0) (HasNone
     (r : Result T (DecodeError X)) (d : Reading) : Type 0 where
   pub passed : OnOk r (Q c d)
   pub no_fault : OnOk r (d.stream.faults ≡ c.stream.faults)
-  pub refused : IfErr r (λ e. RefusesWhere (HasNone c) (IsDeep c) c e d)
+  pub refused : IfErr r (λ e. Refuses cause_of any HasNone IsDeep c e d)
   pub marked : d.marked ≡ c.marked
 
 -- headers in these octets, the first at their beginning, lead to a constructed value at a depth of four or more
@@ -63,10 +56,6 @@ pub record LeadDeep (mode : Mode) (w : List ℕ) : Type 0 where
   pub deep : 4 ≤ last.depth
 
 -- ---- one value
-
--- no value comes next in open content
-pub record HasNoValue (c : Reading) : Type 0 where
-  pub none : (t : Tree) (w after : List ℕ) → HasValue c t w after → ⊥
 
 -- open content that is not at its end begins with headers that lead to a deep value
 pub record BeginsDeep (c : Reading) : Type 0 where
@@ -90,12 +79,6 @@ pub record CapturesValue (c : Reading) (k : Kept) (d : Reading) : Type 0 where
 
 -- ---- the next value, if there is one
 
--- open content is not at its end, and no value comes next
-pub record HasNoNext (c : Reading) : Type 0 where
-  pub usable : c.state ≡ Open
-  pub some : NotAtEnd c
-  pub none : HasNoValue c
-
 -- the next value was captured, or content was at its end, or a value was refused
 pub record CapturesNext {X : Type 0} (c : Reading) (r : Result (Option Kept) (DecodeError X)) (d : Reading) : Type 0 where
   -- Some: the octets are the one value that comes next
@@ -106,7 +89,7 @@ pub record CapturesNext {X : Type 0} (c : Reading) (r : Result (Option Kept) (De
   -- on Ok, the source met no fault
   pub no_fault : OnOk r (d.stream.faults ≡ c.stream.faults)
   -- an error says why, and content has failed; memory runs out only if a value comes next, or what does leads to a deep one
-  pub refused : IfErr r (λ e. RefusesWhere (HasNoNext c) (HasValueOrDeep c) c e d)
+  pub refused : IfErr r (λ e. Refuses cause_of any HasNoNext HasValueOrDeep c e d)
   pub failed : OnErr r (d.state ≡ Failed)
   -- the mode and the mark stay
   pub mode : d.mode ≡ c.mode

@@ -16,8 +16,9 @@ use Rattle.bcder.specs.x690.Tree.{Tree}
 use Rattle.bcder.specs.x690.Encoding.{IsHeader}
 use Rattle.bcder.specs.x690.Preorder.{Heading, preorder}
 use Rattle.bcder.specs.calls.Stream.{Stream}
+use Rattle.bcder.specs.calls.Refusals.{Refuses}
 use Rattle.bcder.specs.calls.Content.{any, Reading, EndsAt, IsDone, NotAtEnd}
-use Rattle.bcder.specs.calls.Walking.{HasValue, PassesValue, RefusesWalk, PassedBy, Walks, RefusesValues, AllBy}
+use Rattle.bcder.specs.calls.Walking.{HasNoNext, HasValue, PassesValue, PassedBy, Walks, RefusesValues, AllBy}
 use Rattle.bcder.specs.calls.Takes.{HasNone}
 use Rattle.bcder.specs.calls.Views.{of_constructed}
 
@@ -82,7 +83,8 @@ pub record SkipsValue {F E : Type 0} (step : Steps F E) (c : Reading) (f g : F) 
 pub data RefusesSkip {F X : Type 0} (why : X → Cause ContentError) (step : Steps F ContentError) (c : Reading) (f : F) (e : X) (g : F)
     (d : Reading) : Type 0 where
   -- no value comes next, an earlier one was refused, or the source failed
-  by_content : (calls : List Heading) → Called step f calls g → WereCalls c calls d → RefusesWalk why c e d → RefusesSkip why step c f e g d
+  by_content : (calls : List Heading) → Called step f calls g → WereCalls c calls d → Refuses why any HasNoNext (λ _. ⊥) c e d
+      → RefusesSkip why step c f e g d
   -- the closure refused a heading
   by_closure : (calls : List Heading) (h : Heading) (q : F) (x : ContentError) → Called step f calls q → Refused step q h x g
       → WereCalls c (calls ++ h ∷ []) d → why e ≡ of_content x → RefusesSkip why step c f e g d
@@ -130,7 +132,7 @@ pub record GoesDeep (c d : Reading) : Type 0 where
 
 -- why no value of c was passed, with error e; `why` gives its cause
 pub data RefusesOne {X : Type 0} (why : X → Cause ContentError) (c : Reading) (e : X) (d : Reading) : Type 0 where
-  by_walk : RefusesWalk why c e d → RefusesOne why c e d
+  by_walk : Refuses why any HasNoNext (λ _. ⊥) c e d → RefusesOne why c e d
   by_depth : GoesDeep c d → why e ≡ of_memory → RefusesOne why c e d
 
 -- why values weren't passed up to the end of c, with error e; `why` gives its cause

@@ -3,7 +3,7 @@ use Rattle.std.specs.Prelude.{Ok, Err}
 use Rattle.bcder.specs.calls.Cause.{cause_of}
 use Rattle.bcder.specs.steps.StopCause.{stop_cause}
 use Rattle.bcder.specs.calls.Views.{of_constructed}
-use Rattle.bcder.specs.calls.Walking.{source}
+use Rattle.bcder.specs.calls.Refusals.{source}
 use Rattle.bcder.specs.laws.Moved.{moved_carries, moved_twice_is_moved}
 use Rattle.bcder.proofs.Passing.{looked_next}
 use Rattle.bcder.proofs.Stopping.{walk_stopped}
