@@ -11,17 +11,21 @@ use Rattle.bcder.specs.laws.Complete.{tree_complete, one_list}
 use Rattle.bcder.specs.laws.Gathered.{AreEncodings-suits}
 use Rattle.bcder.specs.laws.Lists.{AreEncodings-one}
 use Rattle.bcder.specs.calls.Captured.{Kept}
-use Rattle.bcder.specs.calls.CapturingValues.{CapturesValue, CapturesNext, HasNoNext, HasValueOrDeep, RefusesWhere}
+use Rattle.bcder.specs.calls.CapturingValues.{CapturesValue, CapturesNext, HasValueOrDeep}
 use Rattle.bcder.specs.calls.CapturingValues as capturing
-use Rattle.bcder.specs.calls.Content.{Reading, Octets}
+use Rattle.bcder.specs.calls.Content.{any, tagged, Reading, Octets}
 use Rattle.bcder.specs.calls.Gathered.{KeptMeans}
 use Rattle.bcder.specs.calls.Valued.{tag_of}
 use Rattle.bcder.proofs.Lemmas.{IsWithinOwed, header_of_tagged}
 use Rattle.asn1.specs.Anything.{Every, IsOneValue, KeepsValue, kept_value}
-use Rattle.asn1.specs.Types.{HasNoneOf, at_end, AllocatesFor, of_header, of_depth, by_end, TakesTyped, RefusesTyped, TakesNextTyped}
+use Rattle.asn1.specs.Types.{at_end, AllocatesFor, of_header, of_depth, by_end, TakesTyped, RefusesTyped, TakesNextTyped}
 use Rattle.asn1.specs.Types as types
 use Rattle.asn1.specs.Keys.{MeansOne, IsMeantOnce}
 use Rattle.asn1.specs.Writing.{IsReadAs}
+use Rattle.bcder.specs.calls.Cause.{cause_of}
+use Rattle.bcder.specs.calls.Refusals as refusals
+use Rattle.bcder.specs.calls.Refusals.{Refuses}
+use Rattle.bcder.specs.calls.Walking.{HasNoNext}
 use Rattle.asn1.proofs.Reading.{encoded_tag}
 
 -- ---- what is kept is one value
@@ -61,11 +65,11 @@ module _ (c d : Reading) (w : IsWithinOwed c) (form : c.kind ≢ Octets) (asked 
       of_header (record { tag = tag_of t; is_one = encoded_tag c.mode t v h.encodes; after = f.0; header = f.1 })
   allocates (capturing.HasValueOrDeep.of_depth h) = of_depth (λ t g. g) h
 
-  refused : {X : Type 0} (e : DecodeError X) → RefusesWhere (HasNoNext c) (HasValueOrDeep c) c e d → RefusesTyped (Every asked) (KeepsValue c.mode) true c e d
-  refused e (capturing.RefusesWhere.failed s a) = types.RefusesTyped.failed s a
-  refused e (capturing.RefusesWhere.source s g) = types.RefusesTyped.source s g
-  refused e (capturing.RefusesWhere.memory s h) = types.RefusesTyped.memory s refl (allocates h)
-  refused e (capturing.RefusesWhere.nothing n a) =
+  refused : {X : Type 0} (e : DecodeError X) → Refuses cause_of any HasNoNext HasValueOrDeep c e d → RefusesTyped (Every asked) (KeepsValue c.mode) true c e d
+  refused e (refusals.Refuses.failed s a) = types.RefusesTyped.failed s a
+  refused e (refusals.Refuses.source s g) = types.RefusesTyped.source s g
+  refused e (refusals.Refuses.memory s h) = types.RefusesTyped.memory s refl (allocates h)
+  refused e (refusals.Refuses.nothing n a) =
       types.RefusesTyped.broken
       (record { usable = n.usable; value = λ t v rest x h k. n.none.none t v rest h.0; absent = by_end (λ t g. g) n.some }) a.refused
 

@@ -8,13 +8,14 @@ use Rattle.bcder.specs.calls.Content.{Reading, Octets, Moves, EndsBefore, IsDone
 use Rattle.bcder.specs.calls.Skipping.{RefusesOne, by_walk, RefusesSkipAll, by_values}
 use Rattle.bcder.specs.calls.Skipping as skipping
 use Rattle.bcder.specs.calls.Valued.{HoldsValues}
-use Rattle.bcder.specs.calls.Walking.{HasValues, PassesValue, PassedBy, AllBy}
+use Rattle.bcder.specs.calls.Walking.{HasValues, PassedBy, AllBy}
 use Rattle.bcder.specs.calls.Walking as walking
 use Rattle.bcder.proofs.Lemmas.{open_has_not_ended, open_has_not_failed, IsWithinOwed, values_after, values_with_one_more}
 use Rattle.bcder.proofs.Lemmas.{no_values_at_the_end, no_trees_at_the_end, done_is_at_its_end}
 use Rattle.bcder.proofs.Lemmas.{no_values_without_a_first, as_many_are_no_fewer, grew_in_between}
 use Rattle.asn1.specs.Types.{AreAll, TakesFields, RefusesFields, ReadsFields}
 use Rattle.asn1.specs.Types as types
+use Rattle.bcder.specs.calls.Refusals as refusals
 use Rattle.asn1.proofs.Reading.{held_once, failed_holds_none}
 
 -- ---- content at its end
@@ -50,14 +51,15 @@ module _ {T X A : Type 0} (x : T) (c d : Reading) (k : c.kind ≢ Octets) (l : d
 
 module _ {T X : Type 0} (c d : Reading) (k : c.kind ≢ Octets) (e : DecodeError X) where
   refused_one : RefusesOne cause_of c e d → RefusesFields (AreAll {T = T}) true c e d
-  refused_one (skipping.RefusesOne.by_walk (walking.RefusesWalk.failed s a)) =
+  refused_one (skipping.RefusesOne.by_walk (refusals.Refuses.failed s a)) =
       types.RefusesFields.broken (λ ts us y h i. failed_holds_none c s ts h) a
-  refused_one (skipping.RefusesOne.by_walk (walking.RefusesWalk.source f g)) = types.RefusesFields.source f g
-  refused_one (skipping.RefusesOne.by_walk (walking.RefusesWalk.nothing o n m a)) = types.RefusesFields.broken none_held a.refused
+  refused_one (skipping.RefusesOne.by_walk (refusals.Refuses.source f g)) = types.RefusesFields.source f g
+  refused_one (skipping.RefusesOne.by_walk (refusals.Refuses.memory k n)) = absurd n
+  refused_one (skipping.RefusesOne.by_walk (refusals.Refuses.nothing n a)) = types.RefusesFields.broken none_held a.refused
     where
       none_held : (ts us : Trees) (y : T) → HoldsValues c ts → AreAll ts y us → ⊥
-      none_held ts us y (inl h) i = no_values_without_a_first c o n m h.values
-      none_held ts us y (inr h) i = open_has_not_ended c.state o h.0
+      none_held ts us y (inl h) i = no_values_without_a_first c n h.values
+      none_held ts us y (inr h) i = open_has_not_ended c.state n.usable h.0
   refused_one (skipping.RefusesOne.by_depth g m) = types.RefusesFields.memory m refl
 
   pub refuses_to_skip : {A : Type 0} → PassedBy {T = A} (RefusesOne cause_of) c (Err e) d → ReadsFields (AreAll {T = T}) true c (Err e) d

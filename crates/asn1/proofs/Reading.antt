@@ -12,7 +12,7 @@ use Rattle.bcder.specs.calls.Cause.{IsRefusal}
 use Rattle.bcder.specs.calls.Content.{Reading, Octets, Moves, MovesBy, Whole, Falls, NotAtEnd, IsAtEnd, of_octets, of_definite, of_indefinite, of_unbounded}
 use Rattle.bcder.specs.calls.Content.{EndsBefore, any, tagged, HasOther, HasMarker, IsAbsent, IsElsewhere, none_left, other}
 use Rattle.bcder.specs.calls.Takes.{HasNone}
-use Rattle.bcder.specs.calls.Walking.{NoValue, HasValue, HasValues, PassesValue, ClosesBefore}
+use Rattle.bcder.specs.calls.Walking.{HasValue, HasValues, PassesValue, ClosesBefore}
 use Rattle.bcder.specs.calls.Valued.{HoldsValues, tag_of}
 use Rattle.bcder.specs.laws.Complete.{only_at_front}
 use Rattle.bcder.specs.laws.Lists.{AreEncodings-one}
@@ -21,7 +21,7 @@ use Rattle.bcder.proofs.Lemmas.{open_has_not_ended, open_has_not_failed, IsWithi
 use Rattle.bcder.proofs.Lemmas.{no_values_at_the_end as none_left_values, no_trees_at_the_end as none_left_trees, done_is_at_its_end}
 use Rattle.bcder.proofs.Lemmas.{no_values_without_a_first, header_is_there, one_values, no_values_of_octets, header_of_tagged}
 use Rattle.asn1.specs.Types.{AreEvery, HasNoneOf, elsewhere, at_end, by_tags, by_end, TakesTyped, HasNoTyped, RefusesTyped}
-use Rattle.asn1.specs.Types.{TakesNextTyped, IsMember, BeginWithout, IsOptional, AreBoth, TakesFields}
+use Rattle.asn1.specs.Types.{TakesNextTyped, IsMember, BeginWithout, IsOptional, TakesFields}
 use Rattle.asn1.specs.Types.{HoldsNoFields, RefusesFields, ReadsFields}
 use Rattle.asn1.specs.Types as types
 use Rattle.asn1.proofs.Members.{no_cons, cons_rest, cons_first}
@@ -267,10 +267,11 @@ module _ (c : Reading) (w : IsWithinOwed c) (t : Tree) (v after : List ℕ) (h :
 
 pub none_not_inside : (c : Reading) → IsWithinOwed c → NotAtEnd c → HoldsValues c no_trees → ⊥
 none_not_inside c w n (inl h) =
-    let v : NoValue c = record {
-      none = λ t x y q r. some_value c w t x y (record { usable = h.usable; encodes = q; rest = r }) h.values h.are;
-    } in
-    no_values_without_a_first c h.usable v n h.values
+    no_values_without_a_first c (record {
+      usable = h.usable;
+      some = n;
+      none = record { none = λ t x y k. some_value c w t x y k h.values h.are };
+    }) h.values
 none_not_inside c w n (inr h) = n.none [] (inl h.0)
 
 -- ---- content at its end, whose marker may have been taken

@@ -12,17 +12,16 @@ use Rattle.bcder.specs.x690.Encoding.{IsEncoding, AreEncodings}
 use Rattle.bcder.specs.calls.Cause.{cause_of, of_source, of_memory, IsOfContent, IsRefusal}
 use Rattle.bcder.specs.calls.Stream.{Stream}
 use Rattle.bcder.specs.calls.Captured.{Kept}
-use Rattle.bcder.specs.calls.CapturingValues.{CapturesValue, CapturesNext, RefusesWhere, HasNoNext, HasValueOrDeep}
-use Rattle.bcder.specs.calls.CapturingValues as capturing
-use Rattle.bcder.specs.calls.Content.{Reading, Octets, Moves}
-use Rattle.bcder.specs.calls.Walking.{HasValue, HasValues, PassesValue}
+use Rattle.bcder.specs.calls.CapturingValues.{CapturesValue, CapturesNext, HasValueOrDeep}
+use Rattle.bcder.specs.calls.Content.{any, tagged, Reading, Octets, Moves}
+use Rattle.bcder.specs.calls.Walking.{HasNoNext, HasValue, HasValues, PassesValue}
 use Rattle.bcder.specs.calls.Valued.{HoldsValues, tag_of}
 use Rattle.bcder.specs.laws.Canonical.{one_spelling}
 use Rattle.bcder.specs.laws.Complete.{only_at_front}
 use Rattle.bcder.specs.laws.Moved.{untouched_is_moved, moved_twice_is_moved}
 use Rattle.bcder.proofs.Lemmas.{open_has_not_ended, IsWithinOwed, as_many_are_no_fewer, grew_in_between, shorter_by_a_value, done_is_at_its_end}
 use Rattle.bcder.proofs.Lemmas.{values_after, values_with_one_more, trees_with_one_more}
-use Rattle.asn1.specs.Types.{IsMember, BeginWithout, AreList, TakesFields, HoldsNoFields, RefusesFields, ReadsFields}
+use Rattle.asn1.specs.Types.{IsMember, AreList, TakesFields, HoldsNoFields, RefusesFields, ReadsFields}
 use Rattle.asn1.specs.Types as types
 use Rattle.asn1.specs.Decoded.{IsValueOf, RefusesAll}
 use Rattle.asn1.specs.Decoded as decoded
@@ -30,6 +29,8 @@ use Rattle.asn1.specs.SetsOf.{IsNotAfter, IsNotAfterFirst, AreAscending, AreSetO
 use Rattle.asn1.proofs.Members.{no_cons, cons_first, cons_rest}
 use Rattle.asn1.proofs.ReadingBack.{joined, and_none}
 use Rattle.asn1.proofs.Reading.{failed_holds_none, held_once, none_not_inside}
+use Rattle.bcder.specs.calls.Refusals as refusals
+use Rattle.bcder.specs.calls.Refusals.{Refuses}
 use Rattle.asn1.proofs.Reading.{none_held_at_end}
 
 -- ---- values that ascend
@@ -261,14 +262,14 @@ module _ {T : Type 0} (Tags : Tag → Type 0) (Means : Tree → T → Type 0) (c
       no_value_there n no_trees h = none_not_inside d w n.some h
       no_value_there n (t ∷ₜ us) h = (let z = next_value d t us h in n.none.none t z.0 z.1 z.2)
 
-      capture_refused : RefusesWhere (HasNoNext d) (HasValueOrDeep d) d f e → RefusesFields (AreSetOf c.mode Tags Means) true c f e
-      capture_refused (capturing.RefusesWhere.failed s a) =
+      capture_refused : Refuses cause_of any HasNoNext HasValueOrDeep d f e → RefusesFields (AreSetOf c.mode Tags Means) true c f e
+      capture_refused (refusals.Refuses.failed s a) =
           types.RefusesFields.broken (λ ts us y h g. (let b = r.behind ts h in failed_holds_none d s b.0 b.2)) a
-      capture_refused (capturing.RefusesWhere.source s g) =
+      capture_refused (refusals.Refuses.source s g) =
           types.RefusesFields.source s (grew_in_between _ _ _ _ (as_many_are_no_fewer _ _ r.no_fault) g refl)
-      capture_refused (capturing.RefusesWhere.nothing n a) =
+      capture_refused (refusals.Refuses.nothing n a) =
           types.RefusesFields.broken (λ ts us y h g. (let b = r.behind ts h in no_value_there n b.0 b.2)) a.refused
-      capture_refused (capturing.RefusesWhere.memory s h) = types.RefusesFields.memory s refl
+      capture_refused (refusals.Refuses.memory s h) = types.RefusesFields.memory s refl
 
       pub refuses_set : CapturesNext d (Err f) e → ReadsFields (AreSetOf c.mode Tags Means) true c (Err f) e
       refuses_set n = record { value = tt; no_fault = tt; refused = capture_refused n.refused; mode = o ∙ r.mode; marked = n.marked ∙ r.marked }

@@ -1,7 +1,7 @@
 //! A value of any type, kept as its encoding.
 ghost use Rattle.std.specs.Prelude.{◌≡◌, IfOk, IfErr, Option, true, [], ◌∷◌};
 ghost use Rattle.bcder.specs.calls.Captured.{kept_stream};
-ghost use Rattle.bcder.specs.calls.CapturingValues.{CapturedNext, ExactlyNextCaptured};
+ghost use Rattle.bcder.specs.calls.CapturingValues.{CapturedNext};
 ghost use Rattle.bcder.specs.calls.Gathered.{KeptMeans};
 ghost use Rattle.bcder.specs.calls.Views.{Moved};
 ghost use Rattle.bcder.specs.laws.Gathered.{kept_lawful};
@@ -61,7 +61,6 @@ impl Any {
     ) -> Result<Option<Any>, DecodeError<S::Error>>
         ensures moves { Moved S.stream cons }
         ensures captured { CapturedNext S.stream cons result }
-        ensures exact { ExactlyNextCaptured S.stream cons result }
     {
         let mode = cons.mode();
         match cons.capture_opt_one(alloc) {

@@ -8,11 +8,12 @@ use Rattle.bcder.specs.declared.decode.error.ContentError.{ContentError}
 use Rattle.bcder.specs.calls.Cause.{Cause}
 use Rattle.bcder.specs.x690.Preorder.{Heading}
 use Rattle.bcder.specs.calls.Stream.{Stream}
-use Rattle.bcder.specs.calls.Content.{Reading, ContentForm, Moves, Whole, EndsBefore, NotAtEnd}
-use Rattle.bcder.specs.calls.Walking.{NoValue, PassesValue, PassedBy}
-use Rattle.bcder.specs.calls.Walking as walking
+use Rattle.bcder.specs.calls.Content.{any, Reading, ContentForm, Moves, Whole, EndsBefore, NotAtEnd}
+use Rattle.bcder.specs.calls.Walking.{HasNoNext, PassesValue, PassedBy}
 use Rattle.bcder.specs.calls.Skipping.{WereCalls, RefusesOne}
 use Rattle.bcder.specs.calls.Skipping as skipping
+use Rattle.bcder.specs.calls.Refusals as refusals
+use Rattle.bcder.specs.calls.Refusals.{Refuses}
 use Rattle.bcder.proofs.Naming.{Alike, ends_alike, front_named}
 
 -- content c, behind a borrow of this name
@@ -56,8 +57,12 @@ module _ (n : GName) where
   open_named : (c : Reading) → NotAtEnd c → NotAtEnd (named n c)
   open_named c o = record { none = λ after e. o.none after (ends_unnamed c after e) }
 
-  nothing_named : (c : Reading) → NoValue c → NoValue (named n c)
-  nothing_named c v = record { none = v.none }
+  nothing_named : (c : Reading) → HasNoNext c → HasNoNext (named n c)
+  nothing_named c v = record {
+    usable = v.usable;
+    some = open_named c v.some;
+    none = record { none = λ t w after h. v.none.none t w after (record { usable = h.usable; encodes = h.encodes; rest = h.rest }) };
+  }
 
   value_named : (c d : Reading) → PassesValue c d → PassesValue (named n c) (named n d)
   value_named c d p = record {
@@ -69,11 +74,11 @@ module _ (n : GName) where
   }
 
   module _ {E : Type 0} (why : E → Cause ContentError) (c d : Reading) where
-    refused_named : (x : E) → walking.RefusesWalk why c x d → walking.RefusesWalk why (named n c) x (named n d)
-    refused_named x (walking.RefusesWalk.failed h o) = walking.RefusesWalk.failed h o
-    refused_named x (walking.RefusesWalk.source h g) = walking.RefusesWalk.source h g
-    refused_named x (walking.RefusesWalk.nothing h v q o) =
-        walking.RefusesWalk.nothing h (nothing_named c v) (open_named c q) (front_named (named n c) c (alike_named c) (why x) o)
+    refused_named : (x : E) → Refuses why any HasNoNext (λ _. ⊥) c x d → Refuses why any HasNoNext (λ _. ⊥) (named n c) x (named n d)
+    refused_named x (refusals.Refuses.failed h o) = refusals.Refuses.failed h o
+    refused_named x (refusals.Refuses.source h g) = refusals.Refuses.source h g
+    refused_named x (refusals.Refuses.nothing v o) = refusals.Refuses.nothing (nothing_named c v) (front_named (named n c) c (alike_named c) (why x) o)
+    refused_named x (refusals.Refuses.memory h v) = absurd v
 
     -- whatever is refused of the content behind the other borrow too
     passed_named : {T : Type 0} (Refuses : Reading → E → Reading → Type 0) → ((x : E) → Refuses c x d → Refuses (named n c) x (named n d))
@@ -127,10 +132,10 @@ module _ (n : GName) (c d e : Reading) (s : d.stream ≡ e.stream) (o : d.owed �
   pub moves_behind : Moves (named n c) e
   moves_behind = subst (λ z. Moves (named n c) z) is_named (moves_named n c d mv)
 
-  pub passed_behind : {T E : Type 0} (why : E → Cause ContentError) (r : Result (Option T) E) → PassedBy (walking.RefusesWalk why) c r d
-      → PassedBy (walking.RefusesWalk why) (named n c) r e
+  pub passed_behind : {T E : Type 0} (why : E → Cause ContentError) (r : Result (Option T) E) → PassedBy (Refuses why any HasNoNext (λ _. ⊥)) c r d
+      → PassedBy (Refuses why any HasNoNext (λ _. ⊥)) (named n c) r e
   passed_behind why r p =
-      subst (λ z. PassedBy (walking.RefusesWalk why) (named n c) r z) is_named (passed_named n why c d (walking.RefusesWalk why) (refused_named n why c d) r p)
+      subst (λ z. PassedBy (Refuses why any HasNoNext (λ _. ⊥)) (named n c) r z) is_named (passed_named n why c d (Refuses why any HasNoNext (λ _. ⊥)) (refused_named n why c d) r p)
 
   pub skipped_behind : {T E : Type 0} (why : E → Cause ContentError) (r : Result (Option T) E) → PassedBy (RefusesOne why) c r d
       → PassedBy (RefusesOne why) (named n c) r e

@@ -1,7 +1,7 @@
 -- What a capture of the next value, or of all values, holds.
 use Rattle.std.proofs.Common.{◌≡◌, ◌≢◌, ℕ, ◌<◌, ◌≤◌, ◌||◌, Bool, true, false, List, [], ◌∷◌, ◌++◌, length, Option, Some, None, refl}
 use Rattle.std.proofs.Common.{sym, ap, ◌∙◌, subst, append_assoc, append-nil, length-append, arith, inl, inr}
-use Rattle.std.specs.Prelude.{Result, Ok, Err, IsOkAnd, IsErrAnd, IsOk, IfOk, IfErr, IsSomeAnd, IsTrue, is_none}
+use Rattle.std.specs.Prelude.{Result, Ok, Err, IsErrAnd, IfOk, IfErr}
 use Rattle.std.specs.Borrow.{MutBor}
 use Rattle.std.proofs.lemmas.List.{append_cancel_right}
 use Rattle.bcder.specs.declared.mode.Mode.{Mode}
@@ -17,14 +17,15 @@ use Rattle.bcder.specs.x690.Grammar.{IsOnly}
 use Rattle.bcder.specs.calls.Stream.{Grew}
 use Rattle.bcder.specs.calls.Captured.{Kept, AreWhole}
 use Rattle.bcder.specs.calls.Capturing.{IsCaptureOf, Captures, RefusesCapture, RefusesLeft, by_content, by_source, by_memory}
-use Rattle.bcder.specs.calls.CapturingValues.{RefusesWhere, failed, source, nothing, memory, WantsMemory, CapturesBy, PassesBy, LeadDeep, BeginsDeep}
-use Rattle.bcder.specs.calls.CapturingValues.{HasValueOrDeep, of_value, of_depth, HasValuesOrDeep, MetDeep, CapturesValue, HasNoValue, HasNoNext}
-use Rattle.bcder.specs.calls.CapturingValues.{CapturesNext, AnswersCapture, CapturesValues, HasOthers, PassesToEnd}
+use Rattle.bcder.specs.calls.Refusals.{Refuses, failed, source, nothing, memory}
+use Rattle.bcder.specs.calls.CapturingValues.{CapturesBy, PassesBy, LeadDeep, BeginsDeep}
+use Rattle.bcder.specs.calls.CapturingValues.{HasValueOrDeep, of_value, of_depth, HasValuesOrDeep, MetDeep, CapturesValue}
+use Rattle.bcder.specs.calls.CapturingValues.{CapturesNext, CapturesValues, HasOthers, PassesToEnd}
 use Rattle.bcder.specs.calls.Content.{Reading, ContentForm, octets, values, Octets, IndefiniteValues, label, Closes, Moves, Whole, Falls}
-use Rattle.bcder.specs.calls.Content.{HasMarker, EndsBefore, EndsAt, NotAtEnd, IsDone, IsUsedUp, any, RefusesHeader}
+use Rattle.bcder.specs.calls.Content.{HasMarker, EndsAt, NotAtEnd, IsDone, IsUsedUp, any, RefusesHeader}
 use Rattle.bcder.specs.calls.Calls.{Answered}
 use Rattle.bcder.specs.calls.Decoding.{by_closure, left_failed}
-use Rattle.bcder.specs.calls.Walking.{HasValue, PassesValue, ClosesBefore, HasValues, Walks}
+use Rattle.bcder.specs.calls.Walking.{HasNoNext, HasNoValue, HasValue, PassesValue, ClosesBefore, HasValues, Walks}
 use Rattle.bcder.specs.calls.Walking as walking
 use Rattle.bcder.specs.calls.Skipping.{RefusesOne, GoesDeep}
 use Rattle.bcder.specs.calls.Skipping as skipping
@@ -35,7 +36,7 @@ use Rattle.bcder.proofs.Entering.{Within, looked_failed}
 use Rattle.bcder.proofs.ContentSteps.{next_refused}
 use Rattle.bcder.proofs.Stopping.{walk_stopped}
 use Rattle.bcder.proofs.Naming.{Alike, looked_alike, ends_alike, front_named}
-use Rattle.bcder.proofs.WalkSteps.{value_not_at_end, value_once, moves_faults, grew_from, walks_refused, done_here}
+use Rattle.bcder.proofs.WalkSteps.{value_not_at_end, moves_faults, grew_from, walks_refused, done_here}
 
 -- ---- the same of content that resembles
 
@@ -78,12 +79,12 @@ module _ (c i : Reading) (h : IsCaptureOf c i) where
   others_of n = record { usable = sym h.state ∙ n.usable; none = λ v. n.none (values_of v) }
 
 -- what is refused of the content inside is refused of that around it
-where_of : {X : Type 0} (P Q D E : Type 0) → (P → Q) → (D → E) → (c i j d : Reading) (e : DecodeError X) → Alike c i → i.stream.faults ≡ c.stream.faults
-    → d.stream.faults ≡ j.stream.faults → RefusesWhere P D i e j → RefusesWhere Q E c e d
-where_of P Q D E f g c i j d e s a b (failed x o) = failed (sym s.state ∙ x) o
-where_of P Q D E f g c i j d e s a b (source k y) = source k (rw (← a, b) y)
-where_of P Q D E f g c i j d e s a b (nothing n o) = nothing (f n) (front_named c i s (cause_of e) o)
-where_of P Q D E f g c i j d e s a b (memory m n) = memory m (g n)
+where_of : {X : Type 0} (P Q D E : Reading → Type 0) (c i j d : Reading) → (P i → Q c) → (D i → E c) → (e : DecodeError X) → Alike c i
+    → i.stream.faults ≡ c.stream.faults → d.stream.faults ≡ j.stream.faults → Refuses cause_of any P D i e j → Refuses cause_of any Q E c e d
+where_of P Q D E c i j d f g e s a b (failed x o) = failed (sym s.state ∙ x) o
+where_of P Q D E c i j d f g e s a b (source k y) = source k (rw (← a, b) y)
+where_of P Q D E c i j d f g e s a b (nothing n o) = nothing (f n) (front_named c i s (cause_of e) o)
+where_of P Q D E c i j d f g e s a b (memory m n) = memory m (g n)
 
 pub end_has_none : (c d : Reading) → Within c → EndsAt c d → HasNoValue c
 end_has_none c d w e = record { none = λ t v after h. (value_not_at_end c w t v after h).none d.stream.rest e }
@@ -112,9 +113,9 @@ module _ {C X : Type 0} (view : C → Reading) (post : MutBor C → Result (Unit
   left_mark i j e n (by_memory a u k s f) = (did i j (Ok tt) a).marked
 
   refused_left : (c i j d : Reading) (e : DecodeError X) → IsCaptureOf c i → Moves i j → RefusesLeft view post i e j d.stream.faults
-      → RefusesWhere (HasNone c) (HasSome c) c e d
+      → Refuses cause_of any HasNone HasSome c e d
   refused_left c i j d e h v (by_content (by_closure a) f) =
-      where_of _ _ _ _ (around c i h) (deep_around c i h) c i j d e (capture_alike c i h) h.faults f (did i j (Err e) a).refused
+      where_of _ _ _ _ c i j d (around c i h) (deep_around c i h) e (capture_alike c i h) h.faults f (did i j (Err e) a).refused
   refused_left c i j d e h v (by_content (left_failed x a s o) f) = absurd (usable i j (did i j (Ok x) a).passed s)
   refused_left c i j d e h v (by_source a u k g) = source k (subst (λ z. Grew z d.stream.faults) ((did i j (Ok tt) a).no_fault ∙ h.faults) g)
   refused_left c i j d e h v (by_memory a u k s f) = memory k (some_around c i j h v (did i j (Ok tt) a).passed s)
@@ -177,18 +178,6 @@ holds_value view post c d k h v f =
       stays = o;
     }
 
--- where it stands in front it is captured, unless the source failed or memory was wanted
-pub exactly_one : {X : Type 0} (c d : Reading) (r : Result Kept (DecodeError X)) → CapturesBy CapturesValue HasNoValue HasValueOrDeep c r d
-    → (Grew c.stream.faults d.stream.faults → ⊥) → (WantsMemory r → ⊥) → (t : Tree) (w after : List ℕ) → HasValue c t w after → IsOkAnd r (λ k. k.octets ≡ w)
-exactly_one c d (Ok k) h g m t w after v = (let s = value_once c h.captured.tree t k.octets w d.stream.rest after h.captured.has v in s.front)
-exactly_one c d (Err e) h g m t w after v = absurd (refuted h.refused)
-  where
-    refuted : RefusesWhere (HasNoValue c) (HasValueOrDeep c) c e d → ⊥
-    refuted (failed s o) = open_not_failed c.state v.usable s
-    refuted (source k x) = g x
-    refuted (nothing n o) = n.none t w after v
-    refuted (memory k x) = m k
-
 -- ---- the next value, if there is one
 
 -- content c, failed
@@ -242,7 +231,7 @@ module _ (c i : Reading) (g : GoesOn c i) where
         end = tt;
         done = tt;
         no_fault = tt;
-        refused = where_of _ _ _ _ none_first some_first c i d (as_failed d) e (looked_alike c i g.same) f refl h.refused;
+        refused = where_of _ _ _ _ c i d (as_failed d) none_first some_first e (looked_alike c i g.same) f refl h.refused;
         failed = refl;
         mode = h.mode ∙ g.same.mode;
         marked = h.marked ∙ g.same.marked;
@@ -279,43 +268,11 @@ next_stopped why s e c d w k h f m a = record {
   marked = a;
 }
   where
-    walked : walking.RefusesWalk cause_of c e d → RefusesWhere (HasNoNext c) (HasValueOrDeep c) c e d
-    walked (walking.RefusesWalk.failed x o) = failed x o
-    walked (walking.RefusesWalk.source x y) = source x y
-    walked (walking.RefusesWalk.nothing x n y o) =
-        nothing (record { usable = x; some = y; none = record { none = λ t v after z. n.none t v after z.encodes z.rest } }) o
-
--- a value that comes next is captured, unless the source failed or memory was wanted, and the end is found
-module _ {X : Type 0} (c d : Reading) (w : Within c) where
-  pub exactly_next : (r : Result (Option Kept) (DecodeError X)) → CapturesNext c r d → (Grew c.stream.faults d.stream.faults → ⊥) → AnswersCapture c r
-  exactly_next r h g = record { found = found r h; ended = ended r h }
-    where
-      found : (r : Result (Option Kept) (DecodeError X)) → CapturesNext c r d → (t : Tree) (v after : List ℕ) → HasValue c t v after → (WantsMemory r → ⊥)
-          → IsOkAnd r (λ o. IsSomeAnd o (λ k. k.octets ≡ v))
-      found (Ok (Some k)) h t v after z m = (let s = value_once c h.captured.tree t k.octets v d.stream.rest after h.captured.has z in s.front)
-      found (Ok None) h t v after z m = absurd ((value_not_at_end c w t v after z).none d.stream.rest h.end)
-      found (Err e) h t v after z m = absurd (refuted h.refused)
-        where
-          refuted : RefusesWhere (HasNoNext c) (HasValueOrDeep c) c e d → ⊥
-          refuted (failed x o) = open_not_failed c.state z.usable x
-          refuted (source x y) = g y
-          refuted (nothing n o) = n.none.none t v after z
-          refuted (memory x n) = m x
-
-      ended : (r : Result (Option Kept) (DecodeError X)) → CapturesNext c r d → (after : List ℕ) → EndsBefore c after → IsOkAnd r (λ o. IsTrue (is_none o))
-      ended (Ok None) h after z = refl
-      ended (Ok (Some k)) h after z = absurd ((value_not_at_end c w h.captured.tree k.octets d.stream.rest h.captured.has).none after z)
-      ended (Err e) h after z = absurd (refuted h.refused)
-        where
-          met : HasValueOrDeep c → ⊥
-          met (of_value t v x y) = (value_not_at_end c w t v x y).none after z
-          met (of_depth b) = b.some.none after z
-
-          refuted : RefusesWhere (HasNoNext c) (HasValueOrDeep c) c e d → ⊥
-          refuted (failed x o) = elim z [ inl y ↦ (let q : Failed ≡ Ended = sym x ∙ y in cc) | inr y ↦ open_not_failed c.state y.0 x ]
-          refuted (source x y) = g y
-          refuted (nothing n o) = n.some.none after z
-          refuted (memory x n) = met n
+    walked : Refuses cause_of any HasNoNext (λ _. ⊥) c e d → Refuses cause_of any HasNoNext HasValueOrDeep c e d
+    walked (failed x o) = failed x o
+    walked (source x y) = source x y
+    walked (nothing n o) = nothing n o
+    walked (memory x n) = absurd n
 
 -- ---- all values
 
@@ -408,24 +365,6 @@ module _ {C X : Type 0} (view : C → Reading) (post : MutBor C → Result (Unit
     start = h.start;
   }
 
--- they are captured where the rest up to the end is encodings, unless the source failed or memory was wanted
-pub exactly_all : {X : Type 0} (c d : Reading) (r : Result Kept (DecodeError X)) → CapturesBy CapturesValues HasOthers HasValuesOrDeep c r d
-    → (Grew c.stream.faults d.stream.faults → ⊥) → (WantsMemory r → ⊥) → (HasValues c → c.state ≡ Open → IsOk r) × (c.state ≡ Ended → IsOk r)
-exactly_all c d (Ok k) h g m = (λ v o. refl, λ e. refl)
-exactly_all c d (Err e) h g m = (λ v o. absurd (refuted v o h.refused), λ s. absurd (not_ended s h.refused))
-  where
-    refuted : HasValues c → c.state ≡ Open → RefusesWhere (HasOthers c) (HasValuesOrDeep c) c e d → ⊥
-    refuted v o (failed s a) = open_not_failed c.state o s
-    refuted v o (source k x) = g x
-    refuted v o (nothing n a) = n.none v
-    refuted v o (memory k x) = m k
-
-    not_ended : c.state ≡ Ended → RefusesWhere (HasOthers c) (HasValuesOrDeep c) c e d → ⊥
-    not_ended s (failed x a) = (let y : Ended ≡ Failed = sym s ∙ x in cc)
-    not_ended s (source k x) = g x
-    not_ended s (nothing n a) = open_not_ended c.state n.usable s
-    not_ended s (memory k x) = m k
-
 -- ---- what a capture wants memory for
 
 leads_deep : (c d : Reading) → GoesDeep c d → LeadDeep c.mode c.stream.rest
@@ -442,11 +381,11 @@ deep_usable c d g = g.were.usable (not_none g.calls g.last)
 pub begins_deep : (c d : Reading) → GoesDeep c d → BeginsDeep c
 begins_deep c d g = record { usable = (deep_usable c d g).0; some = (deep_usable c d g).1; leads = leads_deep c d g }
 
-pub one_refused : {X : Type 0} (c d : Reading) (e : DecodeError X) → RefusesOne cause_of c e d → RefusesWhere (HasNoValue c) (BeginsDeep c) c e d
-one_refused c d e (skipping.RefusesOne.by_walk (walking.RefusesWalk.failed s a)) = failed s a
-one_refused c d e (skipping.RefusesOne.by_walk (walking.RefusesWalk.source s f)) = source s f
-one_refused c d e (skipping.RefusesOne.by_walk (walking.RefusesWalk.nothing s n f a)) =
-    nothing (record { none = λ t w after v. n.none t w after v.encodes v.rest }) a
+pub one_refused : {X : Type 0} (c d : Reading) (e : DecodeError X) → RefusesOne cause_of c e d → Refuses cause_of any HasNoValue BeginsDeep c e d
+one_refused c d e (skipping.RefusesOne.by_walk (failed s a)) = failed s a
+one_refused c d e (skipping.RefusesOne.by_walk (source s f)) = source s f
+one_refused c d e (skipping.RefusesOne.by_walk (nothing n a)) = nothing n.none a
+one_refused c d e (skipping.RefusesOne.by_walk (memory s n)) = absurd n
 one_refused c d e (skipping.RefusesOne.by_depth g m) = memory m (begins_deep c d g)
 
 leads_of : (c i : Reading) → IsCaptureOf c i → LeadDeep i.mode i.stream.rest → LeadDeep c.mode c.stream.rest
@@ -550,27 +489,27 @@ all_deep c i h b =
     }
 
 others_left : {X : Type 0} (e : DecodeError X) (i k : Reading) → i.kind ≢ Octets → i.state ≡ Open → walking.RefusesValues cause_of i e k
-    → RefusesWhere (HasOthers i) (MetDeep i) i e k
+    → Refuses cause_of any HasOthers MetDeep i e k
 others_left e i k form o (walking.RefusesValues.failed f a) = failed f a
 others_left e i k form o (walking.RefusesValues.source s f) = source s f
 others_left e i k form o (walking.RefusesValues.broken x n a) = nothing (record { usable = o; none = n }) a
 others_left e i k form o (walking.RefusesValues.short x n a) = absurd (form x)
 
-loop_refused : {X : Type 0} (e : DecodeError X) (i j k : Reading) → i.kind ≢ Octets → Walks i j → walking.RefusesWalk cause_of j e k
-    → RefusesWhere (HasOthers i) (MetDeep i) i e k
-loop_refused e i j k form w (walking.RefusesWalk.failed f a) = failed (w.failed f) a
-loop_refused e i j k form w (walking.RefusesWalk.source s f) = source s (grew_from _ _ _ (moves_faults i j w.moves) f)
-loop_refused e i j k form w (walking.RefusesWalk.nothing s n f a) =
-    others_left e i k form (still_open i j w s) (walks_refused cause_of e i j k form w (walking.RefusesWalk.nothing s n f a))
+loop_refused : {X : Type 0} (e : DecodeError X) (i j k : Reading) → i.kind ≢ Octets → Walks i j → Refuses cause_of any HasNoNext (λ _. ⊥) j e k
+    → Refuses cause_of any HasOthers MetDeep i e k
+loop_refused e i j k form w (failed f a) = failed (w.failed f) a
+loop_refused e i j k form w (source s f) = source s (grew_from _ _ _ (moves_faults i j w.moves) f)
+loop_refused e i j k form w (nothing n a) = others_left e i k form (still_open i j w n.usable) (walks_refused cause_of e i j k form w (nothing n a))
+loop_refused e i j k form w (memory s n) = absurd n
 
 pub loop_refused_one : {X : Type 0} (e : DecodeError X) (i j k : Reading) → i.kind ≢ Octets → Walks i j → RefusesOne cause_of j e k
-    → RefusesWhere (HasOthers i) (MetDeep i) i e k
+    → Refuses cause_of any HasOthers MetDeep i e k
 loop_refused_one e i j k form w (skipping.RefusesOne.by_walk r) = loop_refused e i j k form w r
 loop_refused_one e i j k form w (skipping.RefusesOne.by_depth g m) = memory m (record { form = form; at = j; left = k; walks = w; deep = g })
 
 -- the loop answers the error that it met
 pub pass_refused : {T X : Type 0} (c d : Reading) (r : Result T (DecodeError X)) (e : DecodeError X) → IsErrAnd r (λ x. x ≡ e)
-    → RefusesWhere (HasOthers c) (MetDeep c) c e d → d.marked ≡ c.marked → PassesBy PassesToEnd HasOthers MetDeep c r d
+    → Refuses cause_of any HasOthers MetDeep c e d → d.marked ≡ c.marked → PassesBy PassesToEnd HasOthers MetDeep c r d
 pass_refused c d (Ok x) e h a g = absurd h
 pass_refused c d (Err x) e h a g =
-    record { passed = tt; no_fault = tt; refused = subst (λ y. RefusesWhere (HasOthers c) (MetDeep c) c y d) (sym h) a; marked = g }
+    record { passed = tt; no_fault = tt; refused = subst (λ y. Refuses cause_of any HasOthers MetDeep c y d) (sym h) a; marked = g }

@@ -27,6 +27,8 @@ use Rattle.bcder.proofs.Entering.{Within}
 use Rattle.bcder.proofs.WalkSteps.{done_here}
 use Rattle.bcder.proofs.WalkCalls.{refuses_walk}
 use Rattle.bcder.proofs.Taking.{value_refused}
+use Rattle.bcder.specs.calls.Refusals.{Refuses}
+use Rattle.bcder.specs.calls.Walking.{HasNoNext}
 use Rattle.bcder.proofs.Inner.{layer_is, layers_eq, takes_definite, encodes_primitive}
 
 -- a borrow of content
@@ -81,10 +83,11 @@ module _ {T E : Type 0} (why : E → Cause ContentError) where
 -- ---- why a step was refused
 
 pub step_refused : {T E : Type 0} (why : E → Cause ContentError) (c d : Reading) (e : E) → Within c → RefusesValue why itself (walked {T = T} why) any c e d
-    → walking.RefusesWalk why c e d
+    → Refuses why any HasNoNext (λ _. ⊥) c e d
 step_refused {T} {E} why c d e w h = (let r : Result T E = Err e in refuses_walk why itself (walked {T = T} why) (λ t p r q x. x) c d r w h)
 
-pub next_refused : {E : Type 0} (why : E → Cause ContentError) (c d : Reading) (e : E) → Within c → RefusesHeader why any c e d → walking.RefusesWalk why c e d
+pub next_refused : {E : Type 0} (why : E → Cause ContentError) (c d : Reading) (e : E) → Within c → RefusesHeader why any c e d
+    → Refuses why any HasNoNext (λ _. ⊥) c e d
 next_refused why c d e w h = step_refused {T = ℕ} why c d e w (value_refused why itself (walked {T = ℕ} why) any c e d h)
 
 pub entered_shorter : (c : Reading) (h : Header) (d : Reading) → Enters c h d → length d.stream.rest + 2 ≤ length c.stream.rest

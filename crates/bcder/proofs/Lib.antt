@@ -66,6 +66,7 @@ pub mod LimitStack
 pub mod Unwinding
 pub mod RunSteps
 pub mod SkipCalls
+pub mod Exactness
 pub mod Iterating
 pub mod Gathering
 pub mod Segments

@@ -23,7 +23,6 @@ use Rattle.bcder.specs.steps.Reading.{read_header, read_end, read_contents, at_e
 use Rattle.bcder.specs.calls.Stream.{Layer, Stream, cut, past, limit_left}
 use Rattle.bcder.specs.calls.Content.{Reading, values, Octets, Falls, FitsOwed, ContentForm, HasMarker, of_octets}
 use Rattle.bcder.specs.calls.Content.{of_definite, of_indefinite, of_unbounded, EndsAt, NotAtEnd}
-use Rattle.bcder.specs.calls.Walking.{NoValue}
 use Rattle.bcder.specs.x690.Length.{IsEndOfContents}
 use Rattle.bcder.specs.calls.Calls.{popped}
 use Rattle.bcder.specs.steps.Inside.{limit_inside}
@@ -39,6 +38,7 @@ use Rattle.bcder.proofs.Inner.{layer_is}
 use Rattle.bcder.proofs.Moving.{open_not_ended}
 use Rattle.bcder.proofs.Ends.{from_header, drop_front, two_calls, definite_ends, indefinite_ends, too_few, goes_on, too_long, octets_there, Restores}
 use Rattle.bcder.proofs.Ends.{definite_there, definite_short, indefinite_there, FirstIs, first_heading, heads, Restores-none, Restores-all, Restores-short}
+use Rattle.bcder.specs.steps.WalkSteps.{NoValue}
 use Rattle.bcder.proofs.Growing.{preorders-grown, AreOpen-grown, AreOpen-new}
 
 -- ---- limits

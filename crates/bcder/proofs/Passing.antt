@@ -9,10 +9,9 @@ use Rattle.bcder.specs.declared.mode.Mode.{Mode}
 use Rattle.bcder.specs.x690.Encoding.{Header, IsEncoding}
 use Rattle.bcder.specs.x690.Tree.{Tree}
 use Rattle.bcder.specs.x690.Grammar.{IsOnly}
-use Rattle.bcder.specs.calls.Content.{Reading, Octets, Advances, Moves, Resembles, IsAtEnd, of_octets, of_definite}
+use Rattle.bcder.specs.calls.Content.{any, Reading, Octets, Advances, Moves, Resembles, IsAtEnd, of_octets, of_definite}
 use Rattle.bcder.specs.calls.Content.{of_indefinite, of_unbounded, EndsBefore, NotAtEnd}
-use Rattle.bcder.specs.calls.Walking.{NoValue, PassesValue, PassedBy}
-use Rattle.bcder.specs.calls.Walking as walking
+use Rattle.bcder.specs.calls.Walking.{HasNoNext, PassesValue, PassedBy}
 use Rattle.bcder.specs.steps.Reading.{read_identifier, read_header}
 use Rattle.bcder.specs.steps.Entering.{GoesOn}
 use Rattle.bcder.specs.laws.Complete.{only_at_front}
@@ -20,6 +19,8 @@ use Rattle.bcder.specs.laws.Sound.{none_is}
 use Rattle.bcder.proofs.Moving.{moves_value, open_not_ended}
 use Rattle.bcder.proofs.Headers.{header_no_end, no_marker_unread}
 use Rattle.bcder.proofs.Entering.{Within, used_rest}
+use Rattle.bcder.specs.calls.Refusals as refusals
+use Rattle.bcder.specs.calls.Refusals.{Refuses}
 use Rattle.bcder.proofs.Naming.{looked_alike, ends_alike, front_named}
 
 -- octets at the front of open content were passed that are the encoding of a value
@@ -64,11 +65,18 @@ resembles_sym c d s = record {
 pub looked_ends : (c d : Reading) (after : List ℕ) → Resembles c d → EndsBefore d after → EndsBefore c after
 looked_ends c d after s e = ends_alike c d (looked_alike c d s) after e
 
-looked_nothing : (c d : Reading) → Resembles c d → NoValue d → NoValue c
-looked_nothing c d s n = record { none = λ t w after k r. n.none t w after (subst (λ m. IsEncoding m t w) (sym s.mode) k) (s.rest ∙ r) }
-
 pub looked_open : (c d : Reading) → Resembles c d → NotAtEnd d → NotAtEnd c
 looked_open c d s n = record { none = λ after e. n.none after (looked_ends d c after (resembles_sym c d s) e) }
+
+looked_nothing : (c d : Reading) → Resembles c d → HasNoNext d → HasNoNext c
+looked_nothing c d s n = record {
+  usable = sym s.state ∙ n.usable;
+  some = looked_open c d s n.some;
+  none = record {
+    none = λ t w after h. n.none.none t w after
+        (record { usable = s.state ∙ h.usable; encodes = subst (λ m. IsEncoding m t w) (sym s.mode) h.encodes; rest = s.rest ∙ h.rest });
+  };
+}
 
 -- whatever a call refuses that went on from there
 module _ {E : Type 0} (c d e : Reading) (s : Resembles c d) (f : d.stream.faults ≡ c.stream.faults) (Refuses : Reading → E → Reading → Type 0)
@@ -106,15 +114,16 @@ module _ {E : Type 0} (c d e : Reading) (s : Resembles c d) (f : d.stream.faults
   }
 
 module _ {E : Type 0} (why : E → Cause ContentError) (c d e : Reading) (s : Resembles c d) (f : d.stream.faults ≡ c.stream.faults) where
-  pub looked_refused : (x : E) → walking.RefusesWalk why d x e → walking.RefusesWalk why c x e
-  looked_refused x (walking.RefusesWalk.failed h o) = walking.RefusesWalk.failed (sym s.state ∙ h) o
-  looked_refused x (walking.RefusesWalk.source h g) = walking.RefusesWalk.source h (subst (λ z. Grew z e.stream.faults) f g)
-  looked_refused x (walking.RefusesWalk.nothing h n q o) =
-      walking.RefusesWalk.nothing (sym s.state ∙ h) (looked_nothing c d s n) (looked_open c d s q) (front_named c d (looked_alike c d s) (why x) o)
+  pub looked_refused : (x : E) → Refuses why any HasNoNext (λ _. ⊥) d x e → Refuses why any HasNoNext (λ _. ⊥) c x e
+  looked_refused x (refusals.Refuses.failed h o) = refusals.Refuses.failed (sym s.state ∙ h) o
+  looked_refused x (refusals.Refuses.source h g) = refusals.Refuses.source h (subst (λ z. Grew z e.stream.faults) f g)
+  looked_refused x (refusals.Refuses.nothing n o) = refusals.Refuses.nothing (looked_nothing c d s n) (front_named c d (looked_alike c d s) (why x) o)
+  looked_refused x (refusals.Refuses.memory h n) = absurd n
 
   -- a call that went on from there went on from the content itself
-  pub looked_next : {T : Type 0} (r : Result (Option T) E) → PassedBy (walking.RefusesWalk why) d r e → PassedBy (walking.RefusesWalk why) c r e
-  looked_next r = looked_by c d e s f (walking.RefusesWalk why) looked_refused r
+  pub looked_next : {T : Type 0} (r : Result (Option T) E) → PassedBy (Refuses why any HasNoNext (λ _. ⊥)) d r e
+      → PassedBy (Refuses why any HasNoNext (λ _. ⊥)) c r e
+  looked_next r = looked_by c d e s f (Refuses why any HasNoNext (λ _. ⊥)) looked_refused r
 
 -- ---- content that begins with a header
 

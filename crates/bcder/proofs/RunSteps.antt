@@ -34,11 +34,11 @@ use Rattle.bcder.specs.laws.Limits.{first_kept}
 use Rattle.bcder.proofs.Entering.{Within}
 use Rattle.bcder.proofs.Moving.{open_not_failed}
 use Rattle.bcder.proofs.ContentSteps.{stop_reason}
-use Rattle.bcder.specs.calls.Walking.{NoValue}
 use Rattle.bcder.proofs.WalkSteps.{no_value_of_nothing, end_of_nothing, moves_faults}
 use Rattle.bcder.proofs.LimitStack.{calls_on, falls_unwound, source_passes, first_gone, first_broken, IsMet, met, met_gone}
 use Rattle.bcder.proofs.LimitStack.{met_broken, left, broken, nothing_more, nothing_whole, few_there}
 use Rattle.bcder.proofs.Unwinding.{counts_falls, unwound_indefinites}
+use Rattle.bcder.specs.steps.WalkSteps.{NoValue}
 use Rattle.bcder.proofs.Naming.{of_violation}
 
 -- the closure was called at a header and at headings after it, and these values are open, without a fault

@@ -1,7 +1,7 @@
 -- What skipping promises of content, by what a run over the content of a value did.
-use Rattle.std.proofs.Common.{◌≡◌, ◌≢◌, inl, inr, ℕ, ◌+◌, ◌*◌, ◌≤◌, true, false, List, [], ◌∷◌, ◌++◌, length, Option, Some, None, Ok}
+use Rattle.std.proofs.Common.{◌≡◌, ◌≢◌, inr, ℕ, ◌+◌, ◌*◌, ◌≤◌, true, false, List, [], ◌∷◌, ◌++◌, length, Option, Some, None, Ok}
 use Rattle.std.proofs.Common.{Err, refl, sym, ap, subst, ◌∙◌, arith, append_assoc, append-nil, length-append}
-use Rattle.std.specs.Prelude.{Result, IsOk, ◌⊎◌, ◌<◌}
+use Rattle.std.specs.Prelude.{Result}
 use Rattle.std.proofs.lemmas.List.{append_cancel_right}
 use Rattle.bcder.specs.declared.mode.Mode.{Mode}
 use Rattle.bcder.specs.declared.decode.content.State.TheVariants.{Open, Ended, Failed}
@@ -16,12 +16,11 @@ use Rattle.bcder.specs.x690.Encoding.{IsEncoding, Header}
 use Rattle.bcder.specs.x690.Preorder.{Heading, preorder}
 use Rattle.bcder.specs.steps.Reading.{read_header, read_contents, read_list, read_tree}
 use Rattle.bcder.specs.calls.Stream.{Stream, Grew, cut, past, limited}
-use Rattle.bcder.specs.calls.Content.{Reading, Octets, Resembles, any, Falls, Moves, Advances, Enters, EndsBefore, EndsAt, IsDone, NotAtEnd}
+use Rattle.bcder.specs.calls.Content.{Reading, Octets, Resembles, any, Falls, Moves, Advances, Enters, EndsAt, IsDone, NotAtEnd}
 use Rattle.bcder.specs.x690.Grammar.{IsOnly}
-use Rattle.bcder.specs.calls.Walking.{HasValue, NoValue, PassesValue, RefusesWalk, PassedBy, AnswersNext, HasValues, AllBy, Walks}
-use Rattle.bcder.specs.calls.Walking as walking
-use Rattle.bcder.specs.calls.Skipping.{Steps, Called, WereCalls, SkipsValue, RefusesSkip, SkippedBy, AnswersAll, IsShallow, AnswersSkip}
-use Rattle.bcder.specs.calls.Skipping.{AnswersValue, SkippedValueBy, RefusesOne, RefusesSkipAll, FoundMemory}
+use Rattle.bcder.specs.calls.Walking.{HasNoNext, PassesValue, PassedBy, Walks}
+use Rattle.bcder.specs.calls.Skipping.{Steps, Called, WereCalls, SkipsValue, RefusesSkip, SkippedBy}
+use Rattle.bcder.specs.calls.Skipping.{SkippedValueBy, RefusesOne, RefusesSkipAll}
 use Rattle.bcder.specs.calls.Skipping as skipping
 use Rattle.bcder.specs.steps.Stacked.{heading, interrupt_cause, PassesCalls, IsUnderWay, IsBroken, RanBy, Breaks, by_source, by_content, by_closure, by_memory}
 use Rattle.bcder.specs.laws.Complete.{header_complete, header_size, tree_complete, only_at_front}
@@ -31,12 +30,14 @@ use Rattle.bcder.specs.laws.Moved.{moved_is_no_longer}
 use Rattle.bcder.proofs.Ends.{from_header}
 use Rattle.bcder.proofs.Entering.{Within, header_not_at_end, header_entered}
 use Rattle.bcder.proofs.Inner.{layers_eq}
-use Rattle.bcder.proofs.Moving.{moves_value, moves_failed, advances_trans, open_not_ended, open_not_failed}
+use Rattle.bcder.proofs.Moving.{moves_value, moves_failed, advances_trans, open_not_ended}
 use Rattle.bcder.proofs.LimitStack.{cut_falls, past_falls, finished}
 use Rattle.bcder.proofs.Naming.{behind_header}
 use Rattle.bcder.proofs.Passing.{looked_open, looked_refused, looked_by}
-use Rattle.bcder.proofs.WalkCalls.{answers_next}
-use Rattle.bcder.proofs.WalkSteps.{value_not_at_end, value_once, walks_refused}
+use Rattle.bcder.specs.calls.Refusals as refusals
+use Rattle.bcder.specs.calls.Refusals.{Refuses}
+use Rattle.bcder.specs.steps.WalkSteps.{NoValue}
+use Rattle.bcder.proofs.WalkSteps.{no_next, walks_refused}
 
 -- ---- calls that were made
 
@@ -176,10 +177,10 @@ module _ (c d e : Reading) (k : Header) (s t : Stream) (o p : Option ℕ) (withi
       (hc : IsOfContent (interrupt_cause h) → IsOfContent (why y)) (hs : interrupt_cause h ≡ of_source → why y ≡ of_source)
       (hm : interrupt_cause h ≡ of_memory → why y ≡ of_memory) (hx : (z : ContentError) → h ≡ interrupt.Closure z → why y ≡ of_content z) where
     refused_by : Breaks step c.mode k s o f h g t p → RefusesSkip why step c f y g e
-    refused_by (by_source calls called b j z) = skipping.RefusesSkip.by_content (heading k 0 ∷ calls) called (broken_calls calls b) (walking.RefusesWalk.source
+    refused_by (by_source calls called b j z) = skipping.RefusesSkip.by_content (heading k 0 ∷ calls) called (broken_calls calls b) (refusals.Refuses.source
         (hs j) (subst (λ n. Grew n e.stream.faults) (ap (λ q. q.faults) (sym ds) ∙ nf) (subst (λ n. Grew s.faults n) (ap (λ q. q.faults) (sym es)) z)))
     refused_by (by_content calls called b n j) = skipping.RefusesSkip.by_content (heading k 0 ∷ calls) called (broken_calls calls b)
-        (walking.RefusesWalk.nothing x.usable (nothing_there n) not_at_end (behind_header any c (why y) (hc j) d.stream.rest (header_entered c k d any refl x)))
+        (refusals.Refuses.nothing (no_next c x.usable (nothing_there n) not_at_end) (behind_header any c (why y) (hc j) d.stream.rest (header_entered c k d any refl x)))
     refused_by (by_closure calls before last q z is called r b j) =
         skipping.RefusesSkip.by_closure before last q z called r (same_calls c e (heading k 0 ∷ calls) (before ++ last ∷ []) is (broken_calls calls b)) (hx z j)
     refused_by (by_memory calls before last is called a l b j) = skipping.RefusesSkip.by_memory before last (subst (λ z. Called step f z g) is called)
@@ -257,7 +258,7 @@ module _ {F X : Type 0} (why : X → Cause ContentError) (step : Steps F Content
   pub skipped_end : {T : Type 0} → EndsAt c d → IsDone d → d.stream.faults ≡ c.stream.faults → SkippedBy {T = T} why step c f (Ok None) f d
   skipped_end a b n = record { value = tt; end = a; done = b; uncalled = refl; no_fault = n; refused = tt; failed = tt; mode = mode; marked = marked }
 
-  pub skipped_none : {T : Type 0} (e : X) → Moves c d → RefusesWalk why c e d → d.state ≡ Failed → SkippedBy {T = T} why step c f (Err e) f d
+  pub skipped_none : {T : Type 0} (e : X) → Moves c d → Refuses why any HasNoNext (λ _. ⊥) c e d → d.state ≡ Failed → SkippedBy {T = T} why step c f (Err e) f d
   skipped_none e m r a = record {
     value = tt;
     end = tt;
@@ -270,76 +271,12 @@ module _ {F X : Type 0} (why : X → Cause ContentError) (step : Steps F Content
     marked = marked;
   }
 
--- ---- exactly where a value stands in front
-
-module _ {F X : Type 0} (why : X → Cause ContentError) (step : Steps F ContentError) (c : Reading) (f g : F) (d : Reading) (within : Within c)
-    (sound : Grew c.stream.faults d.stream.faults → ⊥) where
-  refused_walk : (e : X) (t : Tree) (w after : List ℕ) → HasValue c t w after → RefusesWalk why c e d → ⊥
-  refused_walk e t w after h (walking.RefusesWalk.failed a o) = open_not_failed c.state h.usable a
-  refused_walk e t w after h (walking.RefusesWalk.source a o) = sound o
-  refused_walk e t w after h (walking.RefusesWalk.nothing a n z o) = n.none t w after h.encodes h.rest
-
-  joined_calls : (calls more hs : List Heading) (h : Heading) → hs ≡ (calls ++ h ∷ []) ++ more → hs ≡ calls ++ h ∷ more
-  joined_calls calls more hs h e = e ∙ append_assoc calls (h ∷ []) more
-
-  refused_value : (e : X) (t : Tree) (w after : List ℕ) → HasValue c t w after → AnswersAll step f (preorder t 0)
-      → IsShallow (preorder t 0) ⊎ (why e ≡ of_memory → ⊥) → RefusesSkip why step c f e g d → ⊥
-  refused_value e t w after h a m (skipping.RefusesSkip.by_content calls called were r) = refused_walk e t w after h r
-  refused_value e t w after h a m (skipping.RefusesSkip.by_closure calls k q x called r were j) =
-      (let o = were.one t w after h in a calls o.0 k q g x (joined_calls calls o.0 (preorder t 0) k o.1) called r)
-  refused_value e t w after h a (inl m) (skipping.RefusesSkip.by_memory calls k called were b l j) = (let o = were.one t w after h in
-      let y : k.depth < 4 = m calls o.0 k (joined_calls calls o.0 (preorder t 0) k o.1) b in let z : 4 ≤ k.depth = l in absurd (omega arith))
-  refused_value e t w after h a (inr m) (skipping.RefusesSkip.by_memory calls k called were b l j) = m j
-
-  failed_end : (after : List ℕ) → EndsBefore c after → c.state ≡ Failed → ⊥
-  failed_end after (inl a) b = (let y : Ended ≡ Failed = sym a ∙ b in cc)
-  failed_end after (inr a) b = open_not_failed c.state a.0 b
-
-  not_nothing : (calls : List Heading) (h : Heading) → calls ++ h ∷ [] ≡ [] → ⊥
-  not_nothing [] h e = cc
-  not_nothing (k ∷ calls) h e = cc
-
-  refused_end : (e : X) (after : List ℕ) → EndsBefore c after → RefusesSkip why step c f e g d → ⊥
-  refused_end e after h (skipping.RefusesSkip.by_content calls called were (walking.RefusesWalk.failed a o)) = failed_end after h a
-  refused_end e after h (skipping.RefusesSkip.by_content calls called were (walking.RefusesWalk.source a o)) = sound o
-  refused_end e after h (skipping.RefusesSkip.by_content calls called were (walking.RefusesWalk.nothing a n z o)) = z.none after h
-  refused_end e after h (skipping.RefusesSkip.by_closure calls k q x called r were j) = (let u = were.usable (not_nothing calls k) in u.1.none after h)
-  refused_end e after h (skipping.RefusesSkip.by_memory calls k called were b l j) = (let u = were.usable (not_nothing calls k) in u.1.none after h)
-
-  pub answers_skip : {T : Type 0} (r : Result (Option T) X) → SkippedBy why step c f r g d → AnswersSkip why step c f r d
-  answers_skip (Ok None) s = record {
-    found = λ t w after h a m. absurd (let z = value_not_at_end c within t w after h in z.none d.stream.rest s.end);
-    ended = λ after h. refl;
-  }
-  answers_skip (Ok (Some x)) s = record {
-    found = λ t w after h a m. (refl, (let y = value_once c s.value.passes.tree t s.value.passes.value w d.stream.rest after s.value.passes.has h in y.rest));
-    ended = λ after h. absurd (let z = value_not_at_end c within s.value.passes.tree s.value.passes.value d.stream.rest s.value.passes.has in z.none after h);
-  }
-  answers_skip (Err e) s = record {
-    found = λ t w after h a m. absurd (refused_value e t w after h a m s.refused);
-    ended = λ after h. absurd (refused_end e after h s.refused);
-  }
-
 -- ---- a value that has to be there
 
 module _ {F S : Type 0} (step : Steps F ContentError) (c : Reading) (f g : F) (d : Reading) where
   pub value_refused : {T U : Type 0} (e : DecodeError S) → SkippedBy {T = T} {X = DecodeError S} cause_of step c f (Err e) g d
       → SkippedValueBy {T = U} {S = S} step c f (Err e) g d
   value_refused e s = record { value = tt; no_fault = tt; refused = inr (s.failed, s.refused); mode = s.mode; marked = s.marked }
-
--- where one is there, it is passed
-module _ {F S T U : Type 0} (step : Steps F ContentError) (c : Reading) (f : F) (d : Reading) where
-  pub exact_some : (x : T) (y : U) → AnswersSkip {X = DecodeError S} cause_of step c f (Ok (Some x)) d
-      → AnswersValue {X = DecodeError S} cause_of step c f (Ok y) d
-  exact_some x y s = record { found = λ t w after h n m. (s.found t w after h n (inr (λ z. z))).1 }
-
-  pub exact_none : (e : DecodeError S) → AnswersSkip {T = T} {X = DecodeError S} cause_of step c f (Ok None) d
-      → AnswersValue {T = U} {X = DecodeError S} cause_of step c f (Err e) d
-  exact_none e s = record { found = λ t w after h n m. absurd (let x : false ≡ true = (s.found t w after h n (inr (λ z. z))).0 in cc) }
-
-  pub exact_refused : (e : DecodeError S) → AnswersSkip {T = T} {X = DecodeError S} cause_of step c f (Err e) d
-      → AnswersValue {T = U} {X = DecodeError S} cause_of step c f (Err e) d
-  exact_refused e s = record { found = λ t w after h n m. absurd (s.found t w after h n m).0 }
 
 -- ---- without a closure
 
@@ -374,35 +311,9 @@ module _ {X : Type 0} (why : X → Cause ContentError) (c d e : Reading) where
       → PassedBy (RefusesOne why) c r e
   looked_skipped r s f = looked_by c d e s f (RefusesOne why) (looked_one s f) r
 
--- where memory was found, refusals are those of a walk
-walk_of_one : {S : Type 0} (c d : Reading) (e : DecodeError S) → (cause_of e ≡ of_memory → ⊥) → RefusesOne cause_of c e d → RefusesWalk cause_of c e d
-walk_of_one c d e n (skipping.RefusesOne.by_walk r) = r
-walk_of_one c d e n (skipping.RefusesOne.by_depth g j) = absurd (n j)
-
-pub one_exact : {S T : Type 0} (c d : Reading) (r : Result (Option T) (DecodeError S)) → Within c → PassedBy (RefusesOne cause_of) c r d → FoundMemory r
-    → (Grew c.stream.faults d.stream.faults → ⊥) → AnswersNext c r d
-one_exact c d (Ok None) w s m n = answers_next cause_of c d (Ok None) w tt s.end tt n
-one_exact c d (Ok (Some x)) w s m n = answers_next cause_of c d (Ok (Some x)) w s.value tt tt n
-one_exact c d (Err e) w s m n = answers_next cause_of c d (Err e) w tt tt (walk_of_one c d e m s.refused) n
-
 -- ---- all values
 
 pub loop_refused : {X : Type 0} (why : X → Cause ContentError) (e : X) (i j k : Reading) → i.kind ≢ Octets → Walks i j → RefusesOne why j e k
     → RefusesSkipAll why i e k
 loop_refused why e i j k o w (skipping.RefusesOne.by_walk r) = skipping.RefusesSkipAll.by_values (walks_refused why e i j k o w r)
 loop_refused why e i j k o w (skipping.RefusesOne.by_depth g h) = skipping.RefusesSkipAll.by_depth j w g h
-
-octets_no_values : (c : Reading) → c.kind ≡ Octets → HasValues c → ⊥
-octets_no_values c k h = (let x : ⊥ = subst (λ z. walking.ClosesBefore z c.mode c.owed h.all h.after) k h.closes in x)
-
-pub all_exact : {S T : Type 0} (c d : Reading) (r : Result T (DecodeError S)) → AllBy (RefusesSkipAll cause_of) c r d
-    → (Grew c.stream.faults d.stream.faults → ⊥) → FoundMemory r → c.state ≡ Open → HasValues c → IsOk r
-all_exact c d (Ok x) s n m o h = refl
-all_exact c d (Err e) s n m o h = absurd (go s.refused)
-  where
-    go : RefusesSkipAll cause_of c e d → ⊥
-    go (skipping.RefusesSkipAll.by_values (walking.RefusesValues.failed a b)) = open_not_failed c.state o a
-    go (skipping.RefusesSkipAll.by_values (walking.RefusesValues.source a b)) = n b
-    go (skipping.RefusesSkipAll.by_values (walking.RefusesValues.broken a b z)) = b h
-    go (skipping.RefusesSkipAll.by_values (walking.RefusesValues.short a b z)) = octets_no_values c a h
-    go (skipping.RefusesSkipAll.by_depth j w g z) = m z

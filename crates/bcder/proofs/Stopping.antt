@@ -2,10 +2,12 @@
 use Rattle.std.proofs.Common.{◌≡◌, ◌∙◌, subst, sym}
 use Rattle.bcder.specs.declared.decode.error.ContentError.{ContentError}
 use Rattle.bcder.specs.calls.Cause.{Cause, IsOfContent}
-use Rattle.bcder.specs.calls.Content.{Reading, Asked}
+use Rattle.bcder.specs.calls.Content.{any, Reading, Asked}
 use Rattle.bcder.specs.calls.Content as content
 use Rattle.bcder.specs.calls.Calls as calls
-use Rattle.bcder.specs.calls.Walking as walking
+use Rattle.bcder.specs.calls.Refusals as refusals
+use Rattle.bcder.specs.calls.Refusals.{Refuses}
+use Rattle.bcder.specs.calls.Walking.{HasNoNext}
 
 module _ {E F : Type 0} (stopped : E → Cause ContentError) (why : F → Cause ContentError) (s : E) (e : F) (same : why e ≡ stopped s) (c d : Reading) where
   own : IsOfContent (stopped s) → IsOfContent (why e)
@@ -24,7 +26,8 @@ module _ {E F : Type 0} (stopped : E → Cause ContentError) (why : F → Cause 
   end_stopped (calls.RefusesEnd.source_failed k x) = calls.RefusesEnd.source_failed (same ∙ k) x
   end_stopped (calls.RefusesEnd.left_open x o) = calls.RefusesEnd.left_open x (own o)
 
-  pub walk_stopped : walking.RefusesWalk stopped c s d → walking.RefusesWalk why c e d
-  walk_stopped (walking.RefusesWalk.failed x o) = walking.RefusesWalk.failed x (own o)
-  walk_stopped (walking.RefusesWalk.source k x) = walking.RefusesWalk.source (same ∙ k) x
-  walk_stopped (walking.RefusesWalk.nothing s n f o) = walking.RefusesWalk.nothing s n f (record { refused = own o.refused; named = λ q. named (o.named q) })
+  pub walk_stopped : Refuses stopped any HasNoNext (λ _. ⊥) c s d → Refuses why any HasNoNext (λ _. ⊥) c e d
+  walk_stopped (refusals.Refuses.failed x o) = refusals.Refuses.failed x (own o)
+  walk_stopped (refusals.Refuses.source k x) = refusals.Refuses.source (same ∙ k) x
+  walk_stopped (refusals.Refuses.nothing n o) = refusals.Refuses.nothing n (record { refused = own o.refused; named = λ q. named (o.named q) })
+  walk_stopped (refusals.Refuses.memory k n) = absurd n

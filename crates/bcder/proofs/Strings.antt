@@ -14,20 +14,21 @@ use Rattle.bcder.specs.x690.Encoding.{AreEncodings}
 use Rattle.bcder.specs.calls.Cause.{cause_of, of_memory, IsRefusal}
 use Rattle.bcder.specs.calls.Stream.{limit_or}
 use Rattle.bcder.specs.calls.Captured.{Kept}
-use Rattle.bcder.specs.calls.Content.{Reading, Octets, Closes, HasHeader, IsDone, IsUsedUp, NamesFront, tagged}
+use Rattle.bcder.specs.calls.Content.{any, Reading, Octets, Closes, HasHeader, IsDone, IsUsedUp, tagged}
 use Rattle.bcder.specs.calls.Walking.{HasValues, IsShort}
 use Rattle.bcder.specs.calls.Readers.{HasAll, Reads, RefusesReading, FindNoMemory}
 use Rattle.bcder.specs.calls.Readers as readers
-use Rattle.bcder.specs.calls.CapturingValues.{IsAsBefore, CapturesBy, CapturesValues, HasOthers, HasValuesOrDeep, RefusesWhere}
-use Rattle.bcder.specs.calls.CapturingValues as capturing
+use Rattle.bcder.specs.calls.CapturingValues.{IsAsBefore, CapturesBy, CapturesValues, HasOthers, HasValuesOrDeep}
 use Rattle.bcder.specs.calls.StringOctets.{StringOctets, whole, cut, MeansString}
 use Rattle.bcder.specs.x690.OctetString.{segments_of, AreSegmentsIn, MayBeWhole, AreCut}
 use Rattle.bcder.specs.steps.SegmentTable.{segments_at, IsTable}
 use Rattle.bcder.specs.calls.Valued.{HoldsOctets, HoldsValues, HoldsNone, ReadsTree, NeedsMemory, RefusesToRead, ReadsContent}
-use Rattle.bcder.specs.calls.Valued.{HasTagged, HasNoTree, WantsMemoryFor, RefusesTree, TakesNextTree}
+use Rattle.bcder.specs.calls.Valued.{HasTagged, HasNoTree, WantsMemoryFor, TakesNextTree}
 use Rattle.bcder.specs.calls.Valued as valued
 use Rattle.bcder.specs.laws.Lists.{empty_list}
 use Rattle.bcder.proofs.Moving.{open_not_ended, open_not_failed}
+use Rattle.bcder.specs.calls.Refusals as refusals
+use Rattle.bcder.specs.calls.Refusals.{Refuses}
 use Rattle.bcder.proofs.Valued.{one_values, no_values_of_octets, primitive_in_front}
 
 -- ---- in one piece
@@ -193,11 +194,11 @@ module _ {X : Type 0} (Means : Mode → Tree → StringOctets → Type 0) (in_on
       wanted (valued.WantsMemoryFor.of_value t w rest x h m) = valued.WantsMemoryFor.of_value t w rest (whole x) h m
       wanted (valued.WantsMemoryFor.of_header der a h g) = valued.WantsMemoryFor.of_header der a h g
 
-      of_piece : RefusesTree {T = List ℕ} tag (λ t w. Means c.mode t (whole w)) c e d → RefusesTree tag (Means c.mode) c e d
-      of_piece (valued.RefusesTree.failed s i) = valued.RefusesTree.failed s i
-      of_piece (valued.RefusesTree.source s g) = valued.RefusesTree.source s g
-      of_piece (valued.RefusesTree.memory s h) = valued.RefusesTree.memory s (wanted h)
-      of_piece (valued.RefusesTree.broken n i) = valued.RefusesTree.broken (record { usable = n.usable; value = none n; absent = n.absent }) i
+      of_piece : Refuses cause_of (tagged tag) (HasNoTree {T = List ℕ} tag (λ t w. Means c.mode t (whole w))) (WantsMemoryFor {T = List ℕ} tag (λ t w. Means c.mode t (whole w))) c e d → Refuses cause_of (tagged tag) (HasNoTree tag (Means c.mode)) (WantsMemoryFor tag (Means c.mode)) c e d
+      of_piece (refusals.Refuses.failed s i) = refusals.Refuses.failed s i
+      of_piece (refusals.Refuses.source s g) = refusals.Refuses.source s g
+      of_piece (refusals.Refuses.memory s h) = refusals.Refuses.memory s (wanted h)
+      of_piece (refusals.Refuses.nothing n i) = refusals.Refuses.nothing (record { usable = n.usable; value = none n; absent = n.absent }) i
 
 -- a primitive octet string
 pub octets_in_one : (mode : Mode) (t : Tag) (contents : List ℕ) (x : StringOctets) → MeansString mode (primitive t contents) x
@@ -268,11 +269,11 @@ no_others tag Means c o n (constructed t ts) x held means = of_held held.1
     of_held (inr e) = open_not_ended c.state n.usable e.0
 
 not_captured : {X : Type 0} (tag : Tag) (c d : Reading) (e : DecodeError X) → c.kind ≢ Octets → c.mode ≢ Der → IsAsBefore c d
-    → RefusesWhere (HasOthers c) (HasValuesOrDeep c) c e d → RefusesToRead tag (MeansString c.mode) c e d
-not_captured tag c d e o m b (capturing.RefusesWhere.failed s a) = valued.RefusesToRead.failed s a
-not_captured tag c d e o m b (capturing.RefusesWhere.source s g) = valued.RefusesToRead.source s g
-not_captured tag c d e o m b (capturing.RefusesWhere.nothing n a) = valued.RefusesToRead.nothing (no_others tag _ c o n) a.refused
-not_captured tag c d e o m b (capturing.RefusesWhere.memory s h) = valued.RefusesToRead.memory s (valued.NeedsMemory.of_values m o h b.rest b.state)
+    → Refuses cause_of any HasOthers HasValuesOrDeep c e d → RefusesToRead tag (MeansString c.mode) c e d
+not_captured tag c d e o m b (refusals.Refuses.failed s a) = valued.RefusesToRead.failed s a
+not_captured tag c d e o m b (refusals.Refuses.source s g) = valued.RefusesToRead.source s g
+not_captured tag c d e o m b (refusals.Refuses.nothing n a) = valued.RefusesToRead.nothing (no_others tag _ c o n) a.refused
+not_captured tag c d e o m b (refusals.Refuses.memory s h) = valued.RefusesToRead.memory s (valued.NeedsMemory.of_values m o h b.rest b.state)
 
 -- what is answered of values
 module _ {X : Type 0} (tag : Tag) (c d : Reading) where

@@ -26,14 +26,16 @@ use Rattle.bcder.specs.calls.Calls.{Hands, IsFormOf, ContentOf, Answered, TakesV
 use Rattle.bcder.specs.calls.Calls.{by_closure, unfinished, RefusesEnd, left_failed, source_failed, left_open}
 use Rattle.bcder.specs.calls.Takes.{HasNone, TakesNext, RefusesTake, by_header, by_form, by_content}
 use Rattle.bcder.specs.calls.Walking.{HasValues, ClosesBefore}
-use Rattle.bcder.specs.calls.Valued.{HoldsOctets, HoldsValues, HoldsTree, ReadsTree, NeedsMemory, RefusesToRead, ReadsContent, ReadsAny, tag_of}
-use Rattle.bcder.specs.calls.Valued.{HasTagged, TakesTree, WantsMemoryFor, RefusesTree, TakesNextTree, TakesOneTree}
+use Rattle.bcder.specs.calls.Valued.{HasNoTree, HoldsOctets, HoldsValues, HoldsTree, ReadsTree, NeedsMemory, RefusesToRead, ReadsContent, ReadsAny, tag_of}
+use Rattle.bcder.specs.calls.Valued.{HasTagged, TakesTree, WantsMemoryFor, TakesNextTree, TakesOneTree}
 use Rattle.bcder.specs.calls.Valued as valued
 use Rattle.bcder.specs.laws.Complete.{one_header, one_list, one_end_of_list}
 use Rattle.bcder.proofs.Moving.{open_not_ended, open_not_failed}
 use Rattle.bcder.proofs.Entering.{Within, no_fewer}
 use Rattle.bcder.proofs.WalkSteps.{owed_after, done_here, grew_between}
 use Rattle.bcder.proofs.Typed.{header_not_absent, or_false, handed_value, handed_before}
+use Rattle.bcder.specs.calls.Refusals as refusals
+use Rattle.bcder.specs.calls.Refusals.{Refuses}
 use Rattle.bcder.proofs.Naming.{names_front, behind_header}
 
 -- ---- content is that of one value at most
@@ -207,10 +209,10 @@ none_in_der ts s = s
 
 -- no header was passed
 refused_header : {T X : Type 0} (tag : Tag) (Means : Tree → T → Type 0) (c d : Reading) → Within c → (e : DecodeError X)
-    → RefusesHeader cause_of (tagged tag) c e d → RefusesTree tag Means c e d
-refused_header tag Means c d w e (content.RefusesHeader.failed s a) = valued.RefusesTree.failed s a
-refused_header tag Means c d w e (content.RefusesHeader.source s g) = valued.RefusesTree.source s g
-refused_header tag Means c d w e (content.RefusesHeader.nothing n a) = valued.RefusesTree.broken (record {
+    → RefusesHeader cause_of (tagged tag) c e d → Refuses cause_of (tagged tag) (HasNoTree tag Means) (WantsMemoryFor tag Means) c e d
+refused_header tag Means c d w e (content.RefusesHeader.failed s a) = refusals.Refuses.failed s a
+refused_header tag Means c d w e (content.RefusesHeader.source s g) = refusals.Refuses.source s g
+refused_header tag Means c d w e (content.RefusesHeader.nothing n a) = refusals.Refuses.nothing (record {
   usable = n.usable;
   value = λ t v rest x h k. (let y = tagged_header c w tag t v rest h in n.header y.0 y.1);
   absent = n.absent;
@@ -304,23 +306,26 @@ module _ {C T X : Type 0} (view : C → Reading) (post : Tag → MutBor C → Re
         valued.WantsMemoryFor.of_header (λ e. none_in_der ts (subst (λ z. AreSegmentsIn z ts) (f.hands.mode ∙ e) s)) f.after f.front
         (constructed_form c.mode f.front.form f.front.len f.handed.kind f.front.is_header.allowed f.hands.form (values_form f.handed ts f.hands.state h))
 
-    refused_read : RefusesToRead f.front.tag (Means c.mode) f.handed e f.left → RefusesTree tag (Means c.mode) c e d
+    refused_read : RefusesToRead f.front.tag (Means c.mode) f.handed e f.left
+        → Refuses cause_of (tagged tag) (HasNoTree tag (Means c.mode)) (WantsMemoryFor tag (Means c.mode)) c e d
     refused_read (valued.RefusesToRead.failed s a) = absurd (open_not_failed f.handed.state f.hands.state s)
-    refused_read (valued.RefusesToRead.source s g) = valued.RefusesTree.source s (grew_between _ _ _ _ (no_fewer _ _ f.faults_handed) g f.faults_left)
-    refused_read (valued.RefusesToRead.memory s n) = valued.RefusesTree.memory s (needed n)
+    refused_read (valued.RefusesToRead.source s g) = refusals.Refuses.source s (grew_between _ _ _ _ (no_fewer _ _ f.faults_handed) g f.faults_left)
+    refused_read (valued.RefusesToRead.memory s n) = refusals.Refuses.memory s (needed n)
     refused_read (valued.RefusesToRead.nothing n a) =
-        valued.RefusesTree.broken (record {
+        refusals.Refuses.nothing (record {
           usable = f.usable;
           value = λ t v rest x h m. n t x (held_there t v rest h) m;
           absent = λ rest. header_not_absent tag c f.after rest f.usable f.front;
         }) (behind_header (tagged tag) c (cause_of e) a f.after f.front)
 
-    refused_end : (l : Reading) → IsDone l → l.stream.faults ≡ f.handed.stream.faults → RefusesEnd cause_of l e f.left → RefusesTree tag (Means c.mode) c e d
+    refused_end : (l : Reading) → IsDone l → l.stream.faults ≡ f.handed.stream.faults → RefusesEnd cause_of l e f.left
+        → Refuses cause_of (tagged tag) (HasNoTree tag (Means c.mode)) (WantsMemoryFor tag (Means c.mode)) c e d
     refused_end l o n (left_failed x a) = absurd (not_done l x o)
-    refused_end l o n (source_failed s g) = valued.RefusesTree.source s (grew_between _ _ _ _ (no_fewer _ _ (n ∙ f.faults_handed)) g f.faults_left)
+    refused_end l o n (source_failed s g) = refusals.Refuses.source s (grew_between _ _ _ _ (no_fewer _ _ (n ∙ f.faults_handed)) g f.faults_left)
     refused_end l o n (left_open x a) = absurd (x.none l.stream.rest (done_here l l.kind refl o))
 
-    refused_content : RefusesContent cause_of view post f.front.tag f.handed e f.left → RefusesTree tag (Means c.mode) c e d
+    refused_content : RefusesContent cause_of view post f.front.tag f.handed e f.left
+        → Refuses cause_of (tagged tag) (HasNoTree tag (Means c.mode)) (WantsMemoryFor tag (Means c.mode)) c e d
     refused_content (by_closure a) = refused_read (answered_reads c.mode f.front.tag f.front.tag f.handed f.left (Err e) a f.hands.mode).refused
     refused_content (unfinished y l a m k z) =
         (let r = answered_reads c.mode f.front.tag f.front.tag f.handed l (Ok y) a f.hands.mode in refused_end l r.done r.no_fault z)
@@ -329,7 +334,8 @@ module _ {C T X : Type 0} (view : C → Reading) (post : Tag → MutBor C → Re
     refused_unmarked (by_closure a) = (answered_reads c.mode f.front.tag f.front.tag f.handed f.left (Err e) a f.hands.mode).marked ∙ f.hands.marked
     refused_unmarked (unfinished y l a m k z) = k ∙ (answered_reads c.mode f.front.tag f.front.tag f.handed l (Ok y) a f.hands.mode).marked ∙ f.hands.marked
 
-  refused_tree : (c d : Reading) → Within c → (e : DecodeError X) → RefusesTake view post None (tagged tag) c e d → RefusesTree tag (Means c.mode) c e d
+  refused_tree : (c d : Reading) → Within c → (e : DecodeError X) → RefusesTake view post None (tagged tag) c e d
+      → Refuses cause_of (tagged tag) (HasNoTree tag (Means c.mode)) (WantsMemoryFor tag (Means c.mode)) c e d
   refused_tree c d w e (by_header h m) = refused_header tag (Means c.mode) c d w e h
   refused_tree c d w e (by_form f a m) = absurd f
   refused_tree c d w e (by_content f) = refused_content c d w e f f.refuses

@@ -1,26 +1,24 @@
 -- What a call that walks its content says of the value.
-use Rattle.std.proofs.Common.{◌≡◌, ℕ, true, false, List, ◌++◌, Option, Some, None, refl, sym, ◌∙◌, append_assoc, subst, inl, inr}
+use Rattle.std.proofs.Common.{◌≡◌, true, false, ◌++◌, Option, Some, None, sym, ◌∙◌, append_assoc, subst, inl, inr}
 use Rattle.std.specs.Prelude.{◌⊎◌, Result, Ok, Err, IfOk, IfErr, IfSome, IfNone, is_some}
 use Rattle.std.specs.Borrow.{MutBor}
-use Rattle.bcder.specs.declared.decode.content.State.TheVariants.{Ended, Failed}
 use Rattle.bcder.specs.x690.Identifier.{Tag}
-use Rattle.bcder.specs.x690.Tree.{Tree}
 use Rattle.bcder.specs.x690.Encoding.{IsEncoding}
 use Rattle.bcder.specs.x690.Grammar.{IsOnly}
 use Rattle.bcder.specs.calls.Stream.{Grew}
 use Rattle.bcder.specs.declared.decode.error.ContentError.{ContentError}
 use Rattle.bcder.specs.calls.Cause.{Cause, of_source, IsOfContent}
-use Rattle.bcder.specs.calls.Content.{Reading, any, label, EndsBefore, EndsAt}
+use Rattle.bcder.specs.calls.Content.{Reading, any, label}
 use Rattle.bcder.specs.calls.Calls.{Answered, TakesValue, RefusesContent, by_closure, unfinished, RefusesFront, RefusesValue}
 use Rattle.bcder.specs.calls.Calls as calls
-use Rattle.bcder.specs.calls.Walking.{HasValue, NoValue, PassesValue, AnswersNext}
-use Rattle.bcder.specs.steps.WalkSteps.{WalksBy}
-use Rattle.bcder.specs.calls.Walking as walking
+use Rattle.bcder.specs.calls.Walking.{HasNoNext, PassesValue}
+use Rattle.bcder.specs.steps.WalkSteps.{NoValue, WalksBy}
 use Rattle.bcder.specs.laws.Complete.{only_at_front}
-use Rattle.bcder.proofs.Moving.{open_not_failed}
 use Rattle.bcder.proofs.Entering.{Within, header_not_at_end, no_fewer}
 use Rattle.bcder.proofs.Naming.{names_front, behind_header}
-use Rattle.bcder.proofs.WalkSteps.{no_value_of_nothing, end_of_nothing, refused_inside, refused_end as refused_left, value_not_at_end, value_once}
+use Rattle.bcder.specs.calls.Refusals as refusals
+use Rattle.bcder.specs.calls.Refusals.{Refuses}
+use Rattle.bcder.proofs.WalkSteps.{no_next, no_value_of_nothing, end_of_nothing, refused_inside, refused_end as refused_left}
 
 abbrev pub WalksContent : {C T E : Type 0} → (E → Cause ContentError) → (C → Reading) → (Tag → MutBor C → Result T E → MutBor C → Type 0) → Type 0
 WalksContent {C} {T} {E} why view post = (t : Tag) (p : MutBor C) (r : Result T E) (q : MutBor C) → post t p r q → WalksBy why (view p.now) r (view q.now)
@@ -40,18 +38,19 @@ module _ {C T E : Type 0} (why : E → Cause ContentError) (view : C → Reading
       let w = walks_by f.front.tag f.handed l (Ok y) x in
       inl (refused_left why e c d f.handed f.left f.after f.front f.hands (no_fewer _ _ f.faults_handed) f.faults_left l w.done w.moves z)
 
-  walk_refused : (c d : Reading) (e : E) → Within c → RefusesValue why view post any c e d → walking.RefusesWalk why c e d
-  walk_refused c d e w (calls.RefusesValue.failed s a) = walking.RefusesWalk.failed s a
-  walk_refused c d e w (calls.RefusesValue.source k s) = walking.RefusesWalk.source k s
+  walk_refused : (c d : Reading) (e : E) → Within c → RefusesValue why view post any c e d → Refuses why any HasNoNext (λ _. ⊥) c e d
+  walk_refused c d e w (calls.RefusesValue.failed s a) = refusals.Refuses.failed s a
+  walk_refused c d e w (calls.RefusesValue.source k s) = refusals.Refuses.source k s
   walk_refused c d e w (calls.RefusesValue.nothing n a) =
-      walking.RefusesWalk.nothing n.usable (no_value_of_nothing c w n) (end_of_nothing c n) (names_front any c (why e) a)
+      refusals.Refuses.nothing (no_next c n.usable (no_value_of_nothing c w n) (end_of_nothing c n)) (names_front any c (why e) a)
   walk_refused c d e w (calls.RefusesValue.content f) = elim (front_refused c d e f f.refuses) [
-    | inl s ↦ walking.RefusesWalk.source s.0 s.1
-    | inr n ↦ walking.RefusesWalk.nothing f.usable n.0 (header_not_at_end c f.after w f.usable f.front) (behind_header any c (why e) n.1 f.after f.front)
+    | inl s ↦ refusals.Refuses.source s.0 s.1
+    | inr n ↦ refusals.Refuses.nothing (no_next c f.usable n.0 (header_not_at_end c f.after w f.usable f.front))
+        (behind_header any c (why e) n.1 f.after f.front)
   ]
 
   pub refuses_walk : {U : Type 0} (c d : Reading) (r : Result U E) → Within c → IfErr r (λ e. RefusesValue why view post any c e d)
-      → IfErr r (λ e. walking.RefusesWalk why c e d)
+      → IfErr r (λ e. Refuses why any HasNoNext (λ _. ⊥) c e d)
   refuses_walk c d (Ok x) w h = tt
   refuses_walk c d (Err e) w h = walk_refused c d e w h
 
@@ -79,32 +78,6 @@ module _ {C T E : Type 0} (why : E → Cause ContentError) (view : C → Reading
   walks_one c d (Ok None) h = tt
   walks_one c d (Ok (Some x)) h = takes_value c d x h
   walks_one c d (Err e) h = tt
-
--- ---- exactly where a value stands in front
-
-module _ {E : Type 0} (why : E → Cause ContentError) (c d : Reading) where
-  refused_value : (e : E) (t : Tree) (v after : List ℕ) → HasValue c t v after → (Grew c.stream.faults d.stream.faults → ⊥) → walking.RefusesWalk why c e d → ⊥
-  refused_value e t v after h n (walking.RefusesWalk.failed s a) = open_not_failed c.state h.usable s
-  refused_value e t v after h n (walking.RefusesWalk.source k s) = n s
-  refused_value e t v after h n (walking.RefusesWalk.nothing s x y a) = x.none t v after h.encodes h.rest
-
-  refused_end : (e : E) (after : List ℕ) → EndsBefore c after → (Grew c.stream.faults d.stream.faults → ⊥) → walking.RefusesWalk why c e d → ⊥
-  refused_end e after (inl h) n (walking.RefusesWalk.failed s a) = (let x : Ended ≡ Failed = sym h ∙ s in cc)
-  refused_end e after (inr h) n (walking.RefusesWalk.failed s a) = open_not_failed c.state h.0 s
-  refused_end e after h n (walking.RefusesWalk.source k s) = n s
-  refused_end e after h n (walking.RefusesWalk.nothing s x y a) = y.none after h
-
-  pub answers_next : {T : Type 0} (r : Result (Option T) E) → Within c → IfOk r (λ o. IfSome o (λ _. PassesValue c d)) → IfOk r (λ o. IfNone o (EndsAt c d))
-      → IfErr r (λ e. walking.RefusesWalk why c e d) → (Grew c.stream.faults d.stream.faults → ⊥) → AnswersNext c r d
-  answers_next (Ok None) w a b f n =
-      record { found = λ t v after h. absurd (let z = value_not_at_end c w t v after h in z.none d.stream.rest b); ended = λ after h. refl }
-  answers_next (Ok (Some x)) w a b f n =
-      record {
-        found = λ t v after h. (refl, (let s = value_once c a.tree t a.value v d.stream.rest after a.has h in s.rest));
-        ended = λ after h. absurd (let z = value_not_at_end c w a.tree a.value d.stream.rest a.has in z.none after h);
-      }
-  answers_next (Err e) w a b f n =
-      record { found = λ t v after h. absurd (refused_value e t v after h n f); ended = λ after h. absurd (refused_end e after h n f) }
 
 -- ---- what a call answered
 

@@ -16,9 +16,9 @@ use Rattle.bcder.specs.declared.decode.error.ContentError.{ContentError}
 use Rattle.bcder.specs.calls.Cause.{Cause, of_source, IsOfContent}
 use Rattle.bcder.specs.calls.Content.{Reading, ContentForm, octets, values, Octets, DefiniteValues, IndefiniteValues, any, HasHeader}
 use Rattle.bcder.specs.calls.Content.{HasMarker, Moves, MovesBy, Falls, FitsOwed, IsDone, IsUsedUp, IsAtEnd, of_octets, of_definite}
-use Rattle.bcder.specs.calls.Content.{of_indefinite, of_unbounded, EndsBefore, EndsAt, NotAtEnd, NothingThere, NamesFront}
+use Rattle.bcder.specs.calls.Content.{of_indefinite, of_unbounded, EndsBefore, EndsAt, NotAtEnd, NothingThere}
 use Rattle.bcder.specs.calls.Calls.{Hands, IsFormOf, ContentOf, RefusesEnd, left_failed, source_failed, left_open}
-use Rattle.bcder.specs.calls.Walking.{HasValue, NoValue, PassesValue, ClosesBefore, HasValues, IsShort, AllBy, Walks}
+use Rattle.bcder.specs.calls.Walking.{HasNoNext, HasValue, PassesValue, ClosesBefore, HasValues, IsShort, AllBy, Walks}
 use Rattle.bcder.specs.calls.Walking as walking
 use Rattle.bcder.specs.laws.Complete.{one_encoding, two_octets, Same}
 use Rattle.bcder.specs.laws.Lists.{First}
@@ -26,6 +26,9 @@ use Rattle.bcder.specs.laws.Moved.{moved_keeps_kind, untouched_is_moved, moved_t
 use Rattle.bcder.proofs.Moving.{open_not_ended, open_not_failed}
 use Rattle.bcder.proofs.Headers.{header_of, Shape, shape, is_primitive, is_definite, is_indefinite}
 use Rattle.bcder.proofs.Entering.{Within, header_not_at_end}
+use Rattle.bcder.specs.calls.Refusals as refusals
+use Rattle.bcder.specs.calls.Refusals.{Refuses}
+use Rattle.bcder.specs.steps.WalkSteps.{NoValue}
 use Rattle.bcder.proofs.Naming.{looked_alike, header_alike, front_named}
 
 -- ---- an encoding in front
@@ -89,10 +92,17 @@ ends_before c (values kind.Indefinite) all after q s h e r =
     (h.0, inr (s, of_indefinite q (subst (λ z. HasMarker c.mode z h.0) (sym (r ∙ ap (λ x. x ++ after) e)) h.1)))
 ends_before c (values kind.Unbounded) all after q s h e r = (after, inr (s, of_unbounded q (r ∙ ap (λ x. x ++ after) e ∙ h)))
 
-pub no_values : (c : Reading) → c.state ≡ Open → NoValue c → NotAtEnd c → HasValues c → ⊥
-no_values c s n e h = elim (first_of c.mode h.trees h.all h.encode) [
-  | inl z ↦ (let b = ends_before c c.kind h.all h.after refl s h.closes z h.rest in e.none b.0 b.1)
-  | inr f ↦ n.none f.tree f.front (f.others ++ h.after) f.first (h.rest ∙ ap (λ x. x ++ h.after) f.is ∙ append_assoc f.front f.others h.after)
+pub no_next : (c : Reading) → c.state ≡ Open → NoValue c → NotAtEnd c → HasNoNext c
+no_next c s n e = record { usable = s; some = e; none = record { none = λ t w after h. n.none t w after h.encodes h.rest } }
+
+pub no_values : (c : Reading) → HasNoNext c → HasValues c → ⊥
+no_values c n h = elim (first_of c.mode h.trees h.all h.encode) [
+  | inl z ↦ (let b = ends_before c c.kind h.all h.after refl n.usable h.closes z h.rest in n.some.none b.0 b.1)
+  | inr f ↦ n.none.none f.tree f.front (f.others ++ h.after) (record {
+    usable = n.usable;
+    encodes = f.first;
+    rest = h.rest ∙ ap (λ x. x ++ h.after) f.is ∙ append_assoc f.front f.others h.after;
+  })
 ]
 
 passed_length : (p v x : List ℕ) → p ++ x ≡ v ++ x → length p ≡ length v
@@ -209,11 +219,13 @@ grew_from a b c h g =
     record { no_smaller = (let x : b ≤ c = g.no_smaller in omega arith); larger_or_last = elim g.larger_or_last [ inl x ↦ inl (omega arith) | inr x ↦ inr x ] }
 
 -- the loop stops at an error
-pub walks_refused : {E : Type 0} (why : E → Cause ContentError) (e : E) (i j k : Reading) → i.kind ≢ Octets → Walks i j → walking.RefusesWalk why j e k
+pub walks_refused : {E : Type 0} (why : E → Cause ContentError) (e : E) (i j k : Reading) → i.kind ≢ Octets → Walks i j
+    → Refuses why any HasNoNext (λ _. ⊥) j e k
     → walking.RefusesValues why i e k
-walks_refused why e i j k o w (walking.RefusesWalk.failed f a) = walking.RefusesValues.failed (w.failed f) a
-walks_refused why e i j k o w (walking.RefusesWalk.source s f) = walking.RefusesValues.source s (grew_from _ _ _ (moves_faults i j w.moves) f)
-walks_refused why e i j k o w (walking.RefusesWalk.nothing s n f a) = walking.RefusesValues.broken o (λ h. no_values j s n f (w.remain h))
+walks_refused why e i j k o w (refusals.Refuses.failed f a) = walking.RefusesValues.failed (w.failed f) a
+walks_refused why e i j k o w (refusals.Refuses.source s f) = walking.RefusesValues.source s (grew_from _ _ _ (moves_faults i j w.moves) f)
+walks_refused why e i j k o w (refusals.Refuses.memory s n) = absurd n
+walks_refused why e i j k o w (refusals.Refuses.nothing n a) = walking.RefusesValues.broken o (λ h. no_values j n (w.remain h))
     (record { refused = a.refused; named = λ q. (let r = front_named i j (looked_alike i j (w.front q)) (why e) a in r.named q) })
 
 -- and answers the error that it met

@@ -57,3 +57,4 @@ pub mod CharSetCalls
 pub mod CharSetTexts
 pub mod RestrictedString
 pub mod WrittenRestricted
+pub mod Refusals

@@ -21,3 +21,4 @@ pub mod Gathered
 pub mod StringMeanings
 pub mod CharSets
 pub mod Utf8
+pub mod Exactly

@@ -10,6 +10,7 @@ ghost use Rattle.bcder.specs.x690.Grammar.{ValueHasTwo, ListHasTwo, ValueIsOctet
 pub mod bit_strings;
 pub mod char_sets;
 pub mod encoders;
+pub mod exactly;
 pub mod identifiers;
 pub mod integers;
 pub mod octet_strings;

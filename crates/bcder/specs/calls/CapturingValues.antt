@@ -1,22 +1,23 @@
 -- When the next value is captured, and when all values up to the end of content are.
-use Rattle.std.specs.Prelude.{◌≡◌, ◌≢◌, ◌⊎◌, ℕ, ◌≤◌, true, List, [], ◌∷◌, ◌++◌, Option, Result, IsOkAnd, IsErrAnd, IfOk}
-use Rattle.std.specs.Prelude.{IfErr, IfSome, IfNone, IsSomeAnd, OnOk, OnErr, IsOk, IsTrue, is_none}
+use Rattle.std.specs.Prelude.{◌≡◌, ◌≢◌, ◌⊎◌, ℕ, ◌≤◌, true, List, [], ◌∷◌, ◌++◌, Option, Result, IfOk}
+use Rattle.std.specs.Prelude.{IfErr, IfSome, IfNone, OnOk, OnErr}
 use Rattle.std.specs.Borrow.{MutBor}
 use denote.Triple.Both.{Both}
 use Rattle.bcder.specs.declared.decode.content.Constructed.{Constructed}
 use Rattle.bcder.specs.declared.decode.content.State.TheVariants.{Open, Ended, Failed}
 use Rattle.bcder.specs.declared.decode.error.DecodeError.{DecodeError}
-use Rattle.bcder.specs.calls.Cause.{cause_of, of_source, of_memory, IsRefusal}
+use Rattle.bcder.specs.calls.Cause.{cause_of}
 use Rattle.bcder.specs.declared.mode.Mode.{Mode}
 use Rattle.bcder.specs.x690.Tree.{Tree, Trees}
 use Rattle.bcder.specs.x690.Encoding.{AreEncodings}
 use Rattle.bcder.specs.x690.Preorder.{Heading, preorder}
 use Rattle.bcder.specs.x690.Grammar.{IsOnly}
-use Rattle.bcder.specs.calls.Stream.{Stream, Grew}
+use Rattle.bcder.specs.calls.Stream.{Stream}
 use Rattle.bcder.specs.calls.Captured.{Kept, AreWhole}
-use Rattle.bcder.specs.calls.Content.{Reading, Octets, Closes, EndsBefore, EndsAt, IsDone, NotAtEnd, any, NamesFront}
+use Rattle.bcder.specs.calls.Content.{Reading, Octets, Closes, EndsAt, IsDone, NotAtEnd, any}
 use Rattle.bcder.specs.calls.Skipping.{HeadersFrom, GoesDeep}
-use Rattle.bcder.specs.calls.Walking.{HasValue, PassesValue, ClosesBefore, HasValues, Walks}
+use Rattle.bcder.specs.calls.Refusals.{Refuses}
+use Rattle.bcder.specs.calls.Walking.{HasNoNext, HasNoValue, HasValue, PassesValue, ClosesBefore, HasValues, Walks}
 use Rattle.bcder.specs.calls.Views.{before, after}
 
 -- ---- what both leave
@@ -27,24 +28,12 @@ pub record IsAsBefore (c d : Reading) : Type 0 where
   pub owed : d.owed ≡ c.owed
   pub state : d.state ≡ c.state
 
--- why e was returned for content c: an earlier value was refused, the source failed, c has none of what is asked for,
--- or memory ran out for what it has
-pub data RefusesWhere {X : Type 0} (HasNone HasSome : Type 0) (c : Reading) (e : DecodeError X) (d : Reading) : Type 0 where
-  failed : c.state ≡ Failed → IsRefusal e → RefusesWhere HasNone HasSome c e d
-  source : cause_of e ≡ of_source → Grew c.stream.faults d.stream.faults → RefusesWhere HasNone HasSome c e d
-  nothing : HasNone → NamesFront any (cause_of e) c → RefusesWhere HasNone HasSome c e d
-  memory : cause_of e ≡ of_memory → HasSome → RefusesWhere HasNone HasSome c e d
-
--- memory ran out
-abbrev pub WantsMemory : {T X : Type 0} → Result T (DecodeError X) → Type 0
-WantsMemory r = IsErrAnd r (λ e. cause_of e ≡ of_memory)
-
 -- octets were captured, as Q says, or not, as when there is none of what is asked for; memory runs out only if there is some
 pub record CapturesBy {X : Type 0} (Q : Reading → Kept → Reading → Type 0) (HasNone HasSome : Reading → Type 0) (c : Reading)
     (r : Result Kept (DecodeError X)) (d : Reading) : Type 0 where
   pub captured : IfOk r (λ k. Q c k d)
   pub no_fault : OnOk r (d.stream.faults ≡ c.stream.faults)
-  pub refused : IfErr r (λ e. RefusesWhere (HasNone c) (HasSome c) c e d)
+  pub refused : IfErr r (λ e. Refuses cause_of any HasNone HasSome c e d)
   pub as_before : OnErr r (IsAsBefore c d)
   pub mode : d.mode ≡ c.mode
   pub marked : d.marked ≡ c.marked
@@ -54,7 +43,7 @@ pub record PassesBy {T X : Type 0} (Q : Reading → Reading → Type 0) (HasNone
     (r : Result T (DecodeError X)) (d : Reading) : Type 0 where
   pub passed : OnOk r (Q c d)
   pub no_fault : OnOk r (d.stream.faults ≡ c.stream.faults)
-  pub refused : IfErr r (λ e. RefusesWhere (HasNone c) (IsDeep c) c e d)
+  pub refused : IfErr r (λ e. Refuses cause_of any HasNone IsDeep c e d)
   pub marked : d.marked ≡ c.marked
 
 -- headers in these octets, the first at their beginning, lead to a constructed value at a depth of four or more
@@ -67,10 +56,6 @@ pub record LeadDeep (mode : Mode) (w : List ℕ) : Type 0 where
   pub deep : 4 ≤ last.depth
 
 -- ---- one value
-
--- no value comes next in open content
-pub record HasNoValue (c : Reading) : Type 0 where
-  pub none : (t : Tree) (w after : List ℕ) → HasValue c t w after → ⊥
 
 -- open content that is not at its end begins with headers that lead to a deep value
 pub record BeginsDeep (c : Reading) : Type 0 where
@@ -94,12 +79,6 @@ pub record CapturesValue (c : Reading) (k : Kept) (d : Reading) : Type 0 where
 
 -- ---- the next value, if there is one
 
--- open content is not at its end, and no value comes next
-pub record HasNoNext (c : Reading) : Type 0 where
-  pub usable : c.state ≡ Open
-  pub some : NotAtEnd c
-  pub none : HasNoValue c
-
 -- the next value was captured, or content was at its end, or a value was refused
 pub record CapturesNext {X : Type 0} (c : Reading) (r : Result (Option Kept) (DecodeError X)) (d : Reading) : Type 0 where
   -- Some: the octets are the one value that comes next
@@ -110,16 +89,11 @@ pub record CapturesNext {X : Type 0} (c : Reading) (r : Result (Option Kept) (De
   -- on Ok, the source met no fault
   pub no_fault : OnOk r (d.stream.faults ≡ c.stream.faults)
   -- an error says why, and content has failed; memory runs out only if a value comes next, or what does leads to a deep one
-  pub refused : IfErr r (λ e. RefusesWhere (HasNoNext c) (HasValueOrDeep c) c e d)
+  pub refused : IfErr r (λ e. Refuses cause_of any HasNoNext HasValueOrDeep c e d)
   pub failed : OnErr r (d.state ≡ Failed)
   -- the mode and the mark stay
   pub mode : d.mode ≡ c.mode
   pub marked : d.marked ≡ c.marked
-
--- what is returned if a value comes next, unless memory ran out, and what at the end
-pub record AnswersCapture {X : Type 0} (c : Reading) (r : Result (Option Kept) (DecodeError X)) : Type 0 where
-  pub found : (t : Tree) (w after : List ℕ) → HasValue c t w after → (WantsMemory r → ⊥) → IsOkAnd r (λ o. IsSomeAnd o (λ k. k.octets ≡ w))
-  pub ended : (after : List ℕ) → EndsBefore c after → IsOkAnd r (λ o. IsTrue (is_none o))
 
 -- ---- all values
 
@@ -176,29 +150,14 @@ module _ {S : Type 0} (stream : S → Stream) (c : Both (MutBor (Constructed S))
     abbrev pub CapturedOne : Type 0
     CapturedOne = CapturesBy CapturesValue HasNoValue HasValueOrDeep (before stream c) r (after stream c)
 
-    -- unless the source failed or memory ran out, the next value is captured if there is one
-    abbrev pub ExactlyOne : Type 0
-    ExactlyOne = (Grew (before stream c).stream.faults (after stream c).stream.faults → ⊥) → (WantsMemory r → ⊥)
-        → (t : Tree) (w after : List ℕ) → HasValue (before stream c) t w after → IsOkAnd r (λ k. k.octets ≡ w)
-
     -- all values were captured, or why they were not
     abbrev pub CapturedAll : Type 0
     CapturedAll = CapturesBy CapturesValues HasOthers HasValuesOrDeep (before stream c) r (after stream c)
-
-    -- unless the source failed or memory ran out, all values are captured if the rest up to the end is encodings,
-    -- or if the content has ended
-    abbrev pub CapturesExactlyAll : Type 0
-    CapturesExactlyAll = (Grew (before stream c).stream.faults (after stream c).stream.faults → ⊥) → (WantsMemory r → ⊥)
-        → (HasValues (before stream c) → (before stream c).state ≡ Open → IsOk r) × ((before stream c).state ≡ Ended → IsOk r)
 
   module _ {X : Type 0} (r : Result (Option Kept) (DecodeError X)) where
     -- the next value was captured, or content was at its end, or why it was neither
     abbrev pub CapturedNext : Type 0
     CapturedNext = CapturesNext (before stream c) r (after stream c)
-
-    -- unless the source failed or memory ran out, Some is returned exactly if a value comes next, and None exactly at the end
-    abbrev pub ExactlyNextCaptured : Type 0
-    ExactlyNextCaptured = (Grew (before stream c).stream.faults (after stream c).stream.faults → ⊥) → AnswersCapture (before stream c) r
 
   abbrev pub PassedOne : {T X : Type 0} → Result T (DecodeError X) → Type 0
   PassedOne r = PassesBy PassesValue HasNoValue BeginsDeep (before stream c) r (after stream c)

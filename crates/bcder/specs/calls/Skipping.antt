@@ -1,7 +1,7 @@
 -- Passing over values with a closure that is called at each: the calls that it gets, and what such a call promises.
 use Rattle.std.specs.Borrow.{MutBor}
-use Rattle.std.specs.Prelude.{◌≡◌, ◌⊎◌, ℕ, ◌+◌, ◌*◌, ◌<◌, ◌≤◌, Bool, true, List, [], ◌∷◌, ◌++◌, length, Option, Result, Ok, Err, IsOk}
-use Rattle.std.specs.Prelude.{IsOkAnd, IsErrAnd, IfOk, IfErr, OnOk, OnErr, IfSome, IfNone, IsTrue, is_some, is_none}
+use Rattle.std.specs.Prelude.{◌≡◌, ◌⊎◌, ℕ, ◌+◌, ◌*◌, ◌≤◌, Bool, true, List, [], ◌∷◌, ◌++◌, length, Option, Result, Ok, Err}
+use Rattle.std.specs.Prelude.{IfOk, IfErr, OnOk, OnErr, IfSome, IfNone}
 use Rattle.std.specs.List.{FoldsTo}
 use denote.Triple.Both.{Both}
 use Rattle.bcder.specs.declared.mode.Mode.{Mode}
@@ -15,9 +15,10 @@ use Rattle.bcder.specs.x690.Identifier.{Tag}
 use Rattle.bcder.specs.x690.Tree.{Tree}
 use Rattle.bcder.specs.x690.Encoding.{IsHeader}
 use Rattle.bcder.specs.x690.Preorder.{Heading, preorder}
-use Rattle.bcder.specs.calls.Stream.{Stream, Grew}
-use Rattle.bcder.specs.calls.Content.{any, Reading, EndsBefore, EndsAt, IsDone, NotAtEnd}
-use Rattle.bcder.specs.calls.Walking.{HasValue, PassesValue, RefusesWalk, PassedBy, HasValues, Walks, RefusesValues, AllBy}
+use Rattle.bcder.specs.calls.Stream.{Stream}
+use Rattle.bcder.specs.calls.Refusals.{Refuses}
+use Rattle.bcder.specs.calls.Content.{any, Reading, EndsAt, IsDone, NotAtEnd}
+use Rattle.bcder.specs.calls.Walking.{HasNoNext, HasValue, PassesValue, PassedBy, Walks, RefusesValues, AllBy}
 use Rattle.bcder.specs.calls.Takes.{HasNone}
 use Rattle.bcder.specs.calls.Views.{of_constructed}
 
@@ -82,7 +83,8 @@ pub record SkipsValue {F E : Type 0} (step : Steps F E) (c : Reading) (f g : F) 
 pub data RefusesSkip {F X : Type 0} (why : X → Cause ContentError) (step : Steps F ContentError) (c : Reading) (f : F) (e : X) (g : F)
     (d : Reading) : Type 0 where
   -- no value comes next, an earlier one was refused, or the source failed
-  by_content : (calls : List Heading) → Called step f calls g → WereCalls c calls d → RefusesWalk why c e d → RefusesSkip why step c f e g d
+  by_content : (calls : List Heading) → Called step f calls g → WereCalls c calls d → Refuses why any HasNoNext (λ _. ⊥) c e d
+      → RefusesSkip why step c f e g d
   -- the closure refused a heading
   by_closure : (calls : List Heading) (h : Heading) (q : F) (x : ContentError) → Called step f calls q → Refused step q h x g
       → WereCalls c (calls ++ h ∷ []) d → why e ≡ of_content x → RefusesSkip why step c f e g d
@@ -108,26 +110,6 @@ pub record SkippedBy {F T X : Type 0} (why : X → Cause ContentError) (step : S
   pub mode : d.mode ≡ c.mode
   pub marked : d.marked ≡ c.marked
 
--- f returns Ok at each call along the headings
-abbrev pub AnswersAll : {F E : Type 0} → Steps F E → F → List Heading → Type 0
-AnswersAll {F} {E} step f hs = (calls more : List Heading) (h : Heading) (q g : F) (x : E) → hs ≡ calls ++ h ∷ more → Called step f calls q
-    → Refused step q h x g → ⊥
-
--- no constructed value is at a depth of four or more
-abbrev pub IsShallow : List Heading → Type 0
-IsShallow hs = (calls more : List Heading) (h : Heading) → hs ≡ calls ++ h ∷ more → h.constructed ≡ true → h.depth < 4
-
--- memory was found, or wasn't needed
-abbrev pub FindsMemory : {T X : Type 0} → (X → Cause ContentError) → List Heading → Result T X → Type 0
-FindsMemory why hs r = IsShallow hs ⊎ (IsErrAnd r (λ e. why e ≡ of_memory) → ⊥)
-
--- what is returned if a value comes next, and what at the end
-pub record AnswersSkip {F T X : Type 0} (why : X → Cause ContentError) (step : Steps F ContentError) (c : Reading) (f : F)
-    (r : Result (Option T) X) (d : Reading) : Type 0 where
-  pub found : (t : Tree) (w after : List ℕ) → HasValue c t w after → AnswersAll step f (preorder t 0) → FindsMemory why (preorder t 0) r
-      → IsOkAnd r (λ o. IsTrue (is_some o)) × (d.stream.rest ≡ after)
-  pub ended : (after : List ℕ) → EndsBefore c after → IsOkAnd r (λ o. IsTrue (is_none o))
-
 -- a call passed over the next value, which had to be there, or refused
 pub record SkippedValueBy {F T S : Type 0} (step : Steps F ContentError) (c : Reading) (f : F) (r : Result T (DecodeError S)) (g : F)
     (d : Reading) : Type 0 where
@@ -137,12 +119,6 @@ pub record SkippedValueBy {F T S : Type 0} (step : Steps F ContentError) (c : Re
   pub refused : IfErr r (λ e. HasNone any c d × IsRefusal e × (g ≡ f) ⊎ (d.state ≡ Failed) × RefusesSkip cause_of step c f e g d)
   pub mode : d.mode ≡ c.mode
   pub marked : d.marked ≡ c.marked
-
--- what is returned if a value comes next
-pub record AnswersValue {F T X : Type 0} (why : X → Cause ContentError) (step : Steps F ContentError) (c : Reading) (f : F) (r : Result T X)
-    (d : Reading) : Type 0 where
-  pub found : (t : Tree) (w after : List ℕ) → HasValue c t w after → AnswersAll step f (preorder t 0) → FindsMemory why (preorder t 0) r
-      → IsOkAnd r (λ _. d.stream.rest ≡ after)
 
 -- ---- without a closure
 
@@ -156,7 +132,7 @@ pub record GoesDeep (c d : Reading) : Type 0 where
 
 -- why no value of c was passed, with error e; `why` gives its cause
 pub data RefusesOne {X : Type 0} (why : X → Cause ContentError) (c : Reading) (e : X) (d : Reading) : Type 0 where
-  by_walk : RefusesWalk why c e d → RefusesOne why c e d
+  by_walk : Refuses why any HasNoNext (λ _. ⊥) c e d → RefusesOne why c e d
   by_depth : GoesDeep c d → why e ≡ of_memory → RefusesOne why c e d
 
 -- why values weren't passed up to the end of c, with error e; `why` gives its cause
@@ -164,10 +140,6 @@ pub data RefusesSkipAll {X : Type 0} (why : X → Cause ContentError) (c : Readi
   by_values : RefusesValues why c e d → RefusesSkipAll why c e d
   -- some values were passed, and then a deep one was met
   by_depth : (j : Reading) → Walks c j → GoesDeep j d → why e ≡ of_memory → RefusesSkipAll why c e d
-
--- the result is not out of memory
-abbrev pub FoundMemory : {T X : Type 0} → Result T (DecodeError X) → Type 0
-FoundMemory r = IsErrAnd r (λ e. cause_of e ≡ of_memory) → ⊥
 
 -- ---- of parameters, from entry to exit
 
@@ -177,20 +149,9 @@ module _ {S F : Type 0} (stream : S → Stream) (step : Steps F ContentError) (c
   abbrev pub SkippedNext : {T X : Type 0} → Result (Option T) (DecodeError X) → Type 0
   SkippedNext r = SkippedBy cause_of step (of_constructed stream c.entry.now) op.entry.now r op.exit.now (of_constructed stream c.exit.now)
 
-  -- unless the source failed, Some is returned exactly if a value comes next at whose headings the closure returns Ok,
-  -- and None exactly at the end
-  abbrev pub ExactlySkipped : {T X : Type 0} → Result (Option T) (DecodeError X) → Type 0
-  ExactlySkipped r = (Grew (of_constructed stream c.entry.now).stream.faults (of_constructed stream c.exit.now).stream.faults → ⊥)
-      → AnswersSkip cause_of step (of_constructed stream c.entry.now) op.entry.now r (of_constructed stream c.exit.now)
-
   -- what a call promises that passes over a value, which has to be there
   abbrev pub SkippedValue : {T X : Type 0} → Result T (DecodeError X) → Type 0
   SkippedValue r = SkippedValueBy step (of_constructed stream c.entry.now) op.entry.now r op.exit.now (of_constructed stream c.exit.now)
-
-  -- unless the source failed, Ok is returned exactly if a value comes next at whose headings the closure returns Ok
-  abbrev pub ExactlyValue : {T X : Type 0} → Result T (DecodeError X) → Type 0
-  ExactlyValue r = (Grew (of_constructed stream c.entry.now).stream.faults (of_constructed stream c.exit.now).stream.faults → ⊥)
-      → AnswersValue cause_of step (of_constructed stream c.entry.now) op.entry.now r (of_constructed stream c.exit.now)
 
 module _ {S : Type 0} (stream : S → Stream) (c : Both (MutBor (Constructed S)) (MutBor (Constructed S))) where
   abbrev pub SkippedOne : {T X : Type 0} → Result (Option T) (DecodeError X) → Type 0
@@ -198,8 +159,3 @@ module _ {S : Type 0} (stream : S → Stream) (c : Both (MutBor (Constructed S))
 
   abbrev pub SkippedAll : {T X : Type 0} → Result T (DecodeError X) → Type 0
   SkippedAll r = AllBy (RefusesSkipAll cause_of) (of_constructed stream c.entry.now) r (of_constructed stream c.exit.now)
-
-  -- unless the source failed or memory ran out, Ok is returned exactly if values go on up to the end
-  abbrev pub ExactlyAll : {T X : Type 0} → Result T (DecodeError X) → Type 0
-  ExactlyAll r = (Grew (of_constructed stream c.entry.now).stream.faults (of_constructed stream c.exit.now).stream.faults → ⊥)
-      → FoundMemory r → (of_constructed stream c.entry.now).state ≡ Open → HasValues (of_constructed stream c.entry.now) → IsOk r

@@ -12,7 +12,8 @@ use Rattle.bcder.specs.calls.Cause.{cause_of, of_source, of_memory, IsRefusal, N
 use Rattle.bcder.specs.x690.Identifier.{Tag}
 use Rattle.bcder.specs.x690.Tree.{Tree, primitive, constructed, Trees, no_trees}
 use Rattle.bcder.specs.calls.Stream.{Stream, Grew}
-use Rattle.bcder.specs.calls.Content.{Reading, Octets, tagged, IsAbsent, IsDone, HasHeader, NamesFront}
+use Rattle.bcder.specs.calls.Content.{Reading, Octets, tagged, IsAbsent, IsDone, HasHeader}
+use Rattle.bcder.specs.calls.Refusals.{Refuses}
 use Rattle.bcder.specs.calls.Walking.{HasValue, HasValues}
 use Rattle.bcder.specs.calls.Takes.{HasNone}
 use Rattle.bcder.specs.calls.CapturingValues.{HasValuesOrDeep}
@@ -111,20 +112,12 @@ module _ {T : Type 0} (tag : Tag) (Means : Tree → T → Type 0) where
     of_header : c.mode ≢ Der → (after : List ℕ) (h : HasHeader (tagged tag) c after) → h.form ≡ true → WantsMemoryFor c
 
   module _ {X : Type 0} where
-    -- why none was taken, with error e: an earlier value was refused; the source failed; memory ran out for one;
-    -- or what comes next is nothing that is read
-    pub data RefusesTree (c : Reading) (e : DecodeError X) (d : Reading) : Type 0 where
-      failed : c.state ≡ Failed → IsRefusal e → RefusesTree c e d
-      source : cause_of e ≡ of_source → Grew c.stream.faults d.stream.faults → RefusesTree c e d
-      memory : cause_of e ≡ of_memory → WantsMemoryFor c → RefusesTree c e d
-      broken : HasNoTree c → NamesFront (tagged tag) (cause_of e) c → RefusesTree c e d
-
     -- the effect of a call that returns the value, or that there is none with the tag
     pub record TakesNextTree (c : Reading) (r : Result (Option T) (DecodeError X)) (d : Reading) : Type 0 where
       pub value : IfOk r (λ o. IfSome o (λ x. TakesTree c x d))
       pub none : IfOk r (λ o. IfNone o (HasNone (tagged tag) c d))
       pub no_fault : OnOk r (d.stream.faults ≡ c.stream.faults)
-      pub refused : IfErr r (λ e. RefusesTree c e d)
+      pub refused : IfErr r (λ e. Refuses cause_of (tagged tag) HasNoTree WantsMemoryFor c e d)
       pub failed : OnErr r (d.state ≡ Failed)
       pub mode : d.mode ≡ c.mode
       pub marked : d.marked ≡ c.marked
@@ -133,7 +126,7 @@ module _ {T : Type 0} (tag : Tag) (Means : Tree → T → Type 0) where
     pub record TakesOneTree (c : Reading) (r : Result T (DecodeError X)) (d : Reading) : Type 0 where
       pub value : IfOk r (λ x. TakesTree c x d)
       pub no_fault : OnOk r (d.stream.faults ≡ c.stream.faults)
-      pub refused : IfErr r (λ e. HasNone (tagged tag) c d × NamesTag tag e ⊎ (d.state ≡ Failed) × RefusesTree c e d)
+      pub refused : IfErr r (λ e. HasNone (tagged tag) c d × NamesTag tag e ⊎ (d.state ≡ Failed) × Refuses cause_of (tagged tag) HasNoTree WantsMemoryFor c e d)
       pub mode : d.mode ≡ c.mode
       pub marked : d.marked ≡ c.marked
 

@@ -1,7 +1,7 @@
 -- When the next value is there, and when all values up to the end of content are.
 use Rattle.std.specs.Borrow.{MutBor}
-use Rattle.std.specs.Prelude.{◌≡◌, ◌≢◌, ℕ, ◌<◌, List, [], ◌++◌, length, Option, Some, Result, IsOkAnd, IfOk}
-use Rattle.std.specs.Prelude.{IfErr, OnOk, OnErr, IfSome, IfNone, IsTrue, is_some, is_none}
+use Rattle.std.specs.Prelude.{◌≡◌, ◌≢◌, ℕ, ◌<◌, List, [], ◌++◌, length, Option, Some, Result, IfOk}
+use Rattle.std.specs.Prelude.{IfErr, OnOk, OnErr, IfSome, IfNone}
 use denote.Triple.Both.{Both}
 use Rattle.bcder.specs.declared.mode.Mode.{Mode}
 use Rattle.bcder.specs.declared.decode.content.Kind.TheVariants as kind
@@ -15,7 +15,8 @@ use Rattle.bcder.specs.calls.Cause.{Cause, cause_of, of_source, IsOfContent}
 use Rattle.bcder.specs.declared.decode.error.DecodeError.{DecodeError}
 use Rattle.bcder.specs.declared.decode.content.Constructed.{Constructed}
 use Rattle.bcder.specs.calls.Views.{of_constructed}
-use Rattle.bcder.specs.calls.Content.{Reading, ContentForm, octets, values, Octets, Moves, HasMarker, EndsBefore, EndsAt}
+use Rattle.bcder.specs.calls.Content.{Reading, ContentForm, octets, values, Octets, Moves, HasMarker, EndsAt}
+use Rattle.bcder.specs.calls.Refusals.{Refuses}
 use Rattle.bcder.specs.calls.Content.{NotAtEnd, IsDone, any, NothingThere, Resembles, NamesFront}
 
 -- ---- one value
@@ -26,9 +27,15 @@ pub record HasValue (c : Reading) (t : Tree) (w after : List ℕ) : Type 0 where
   pub encodes : IsEncoding c.mode t w
   pub rest : c.stream.rest ≡ w ++ after
 
--- no prefix of the rest is an encoding of a value
-pub record NoValue (c : Reading) : Type 0 where
-  pub none : (t : Tree) (w after : List ℕ) → IsEncoding c.mode t w → c.stream.rest ≡ w ++ after → ⊥
+-- no value comes next in open content
+pub record HasNoValue (c : Reading) : Type 0 where
+  pub none : (t : Tree) (w after : List ℕ) → HasValue c t w after → ⊥
+
+-- open content is not at its end, and no value comes next
+pub record HasNoNext (c : Reading) : Type 0 where
+  pub usable : c.state ≡ Open
+  pub some : NotAtEnd c
+  pub none : HasNoValue c
 
 -- the one value that comes next was passed
 pub record PassesValue (c d : Reading) : Type 0 where
@@ -37,17 +44,6 @@ pub record PassesValue (c d : Reading) : Type 0 where
   pub has : HasValue c tree value d.stream.rest
   pub only : IsOnly c.mode tree value c.stream.rest
   pub stays : d.state ≡ Open
-
--- why no value of c was passed, with error e; `why` gives its cause
-pub data RefusesWalk {E : Type 0} (why : E → Cause ContentError) (c : Reading) (e : E) (d : Reading) : Type 0 where
-  failed : c.state ≡ Failed → IsOfContent (why e) → RefusesWalk why c e d
-  source : why e ≡ of_source → Grew c.stream.faults d.stream.faults → RefusesWalk why c e d
-  nothing : c.state ≡ Open → NoValue c → NotAtEnd c → NamesFront any (why e) c → RefusesWalk why c e d
-
--- what is returned if a value comes next, and what at the end
-pub record AnswersNext {T E : Type 0} (c : Reading) (r : Result (Option T) E) (d : Reading) : Type 0 where
-  pub found : (t : Tree) (w after : List ℕ) → HasValue c t w after → IsOkAnd r (λ o. IsTrue (is_some o)) × (d.stream.rest ≡ after)
-  pub ended : (after : List ℕ) → EndsBefore c after → IsOkAnd r (λ o. IsTrue (is_none o))
 
 -- a call passed over the next value, or found the end, or refused
 pub record PassedBy {T E : Type 0} (Refuses : Reading → E → Reading → Type 0) (c : Reading) (r : Result (Option T) E)
@@ -135,9 +131,4 @@ module _ {S : Type 0} (stream : S → Stream) (c : Both (MutBor (Constructed S))
 
   -- what a call that passes over the next value promises about content and its result
   abbrev pub PassedNext : {T X : Type 0} → Result (Option T) (DecodeError X) → Type 0
-  PassedNext r = PassedBy (RefusesWalk cause_of) (of_constructed stream c.entry.now) r (of_constructed stream c.exit.now)
-
-  -- unless the source failed, Some is returned exactly if a value comes next, and None exactly at the end
-  abbrev pub ExactlyNext : {T E : Type 0} → Result (Option T) E → Type 0
-  ExactlyNext r = (Between (λ c d. Grew c.stream.faults d.stream.faults) → ⊥)
-      → AnswersNext (of_constructed stream c.entry.now) r (of_constructed stream c.exit.now)
+  PassedNext r = PassedBy (Refuses cause_of any HasNoNext (λ _. ⊥)) (of_constructed stream c.entry.now) r (of_constructed stream c.exit.now)

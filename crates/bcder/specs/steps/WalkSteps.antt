@@ -1,9 +1,11 @@
 -- What private steps of walking over values return and leave.
 use Rattle.std.specs.Borrow.{MutBor}
-use Rattle.std.specs.Prelude.{◌≡◌, ℕ, ◌≤◌, Bool, false, length, take, Option, Result, IfOk, IfErr, OnOk, OnErr, IsTrue}
+use Rattle.std.specs.Prelude.{◌≡◌, ℕ, ◌≤◌, Bool, false, List, ◌++◌, length, take, Option, Result, IfOk, IfErr, OnOk, OnErr, IsTrue}
 use denote.Triple.Both.{Both}
 use Rattle.bcder.specs.declared.decode.content.State.TheVariants.{Failed}
 use Rattle.bcder.specs.x690.Identifier.{Tag, AreOctets}
+use Rattle.bcder.specs.x690.Tree.{Tree}
+use Rattle.bcder.specs.x690.Encoding.{IsEncoding}
 use Rattle.bcder.specs.calls.Stream.{Stream, Grew}
 use Rattle.bcder.specs.declared.decode.error.ContentError.{ContentError}
 use Rattle.bcder.specs.calls.Cause.{Cause, of_source}
@@ -14,8 +16,9 @@ use Rattle.bcder.specs.declared.decode.content.Constructed.{Constructed}
 use Rattle.bcder.specs.calls.Views.{of_constructed}
 use Rattle.bcder.specs.calls.Calls.{TakesContent}
 use Rattle.bcder.specs.steps.Peek.{header_of}
-use Rattle.bcder.specs.calls.Content.{Reading, Moves, IsDone, Advances, Resembles}
-use Rattle.bcder.specs.calls.Walking.{PassesValue, PassedBy, RefusesWalk, RefusesValues, Between}
+use Rattle.bcder.specs.calls.Refusals.{Refuses}
+use Rattle.bcder.specs.calls.Content.{Reading, any, Moves, IsDone, Advances, Resembles}
+use Rattle.bcder.specs.calls.Walking.{HasNoNext, PassesValue, PassedBy, RefusesValues, Between}
 
 -- the first n octets were passed, and nothing else changed
 pub record PassesOver (c : Reading) (n : ℕ) (d : Reading) : Type 0 where
@@ -25,6 +28,10 @@ pub record PassesOver (c : Reading) (n : ℕ) (d : Reading) : Type 0 where
   pub no_fault : d.stream.faults ≡ c.stream.faults
   pub state : d.state ≡ c.state
   pub marked : d.marked ≡ c.marked
+
+-- no prefix of the rest is an encoding of a value
+pub record NoValue (c : Reading) : Type 0 where
+  pub none : (t : Tree) (w after : List ℕ) → IsEncoding c.mode t w → c.stream.rest ≡ w ++ after → ⊥
 
 -- the next value was passed in one go, or nothing was passed; `why` gives the cause of an error
 pub record AtOnceBy {E : Type 0} (why : E → Cause ContentError) (c : Reading) (r : Result Bool E) (d : Reading) : Type 0 where
@@ -61,7 +68,7 @@ module _ {S : Type 0} (stream : S → Stream) (c : Both (MutBor (Constructed S))
 
   -- what a call that passes over the next value did, with a stop in place of an error
   abbrev pub PassedStep : {T X : Type 0} → Result (Option T) (Stop X) → Type 0
-  PassedStep r = PassedBy (RefusesWalk stop_cause) (of_constructed stream c.entry.now) r (of_constructed stream c.exit.now)
+  PassedStep r = PassedBy (Refuses stop_cause any HasNoNext (λ _. ⊥)) (of_constructed stream c.entry.now) r (of_constructed stream c.exit.now)
 
   abbrev pub PassedOver : ℕ → Type 0
   PassedOver n = Between stream c (λ c d. PassesOver c n d)

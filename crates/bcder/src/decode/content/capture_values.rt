@@ -1,7 +1,5 @@
 //! Capturing the next value, or all values.
-ghost use Rattle.bcder.specs.calls.CapturingValues.{CapturedOne, ExactlyOne, CapturedAll};
-ghost use Rattle.bcder.specs.calls.CapturingValues.{CapturesExactlyAll};
-ghost use Rattle.bcder.specs.calls.CapturingValues.{CapturedNext, ExactlyNextCaptured};
+ghost use Rattle.bcder.specs.calls.CapturingValues.{CapturedOne, CapturedNext, CapturedAll};
 ghost use Rattle.bcder.specs.calls.CapturingValues.{PassedOne, PassedToEnd};
 ghost use Rattle.bcder.specs.calls.Sources.{capturing};
 ghost use Rattle.bcder.specs.calls.Views.{Moved, limited_stream};
@@ -47,7 +45,6 @@ impl<'a, S: Source> Constructed<'a, S> {
     pub fn capture_one(&mut self, alloc: Global) -> Result<Captured, DecodeError<S::Error>>
         ensures moves { Moved S.stream self }
         ensures captured { CapturedOne S.stream self result }
-        ensures exact { ExactlyOne S.stream self result }
     {
         self.capture(
             alloc,
@@ -93,7 +90,6 @@ impl<'a, S: Source> Constructed<'a, S> {
     ) -> Result<Option<Captured>, DecodeError<S::Error>>
         ensures moves { Moved S.stream self }
         ensures captured { CapturedNext S.stream self result }
-        ensures exact { ExactlyNextCaptured S.stream self result }
     {
         match self.find_next() {
             Ok(Some(())) => match self.capture_one(alloc) {
@@ -127,7 +123,6 @@ impl<'a, S: Source> Constructed<'a, S> {
     pub fn capture_all(&mut self, alloc: Global) -> Result<Captured, DecodeError<S::Error>>
         ensures moves { Moved S.stream self }
         ensures captured { CapturedAll S.stream self result }
-        ensures exact { CapturesExactlyAll S.stream self result }
     {
         self.capture(alloc, |cons| pass_all(cons, alloc))
     }

@@ -7,7 +7,6 @@ ghost use Rattle.bcder.specs.calls.Cause.{IsOfContent, IsRefusal};
 ghost use Rattle.bcder.specs.calls.Content.{FitsOwed, Moves, Resembles};
 ghost use Rattle.bcder.specs.steps.Inside.{kind_behind, limit_inside};
 ghost use Rattle.bcder.specs.steps.Peek.{len_of};
-ghost use Rattle.bcder.specs.calls.Skipping.{ExactlyAll, ExactlySkipped, ExactlyValue, FoundMemory};
 ghost use Rattle.bcder.specs.calls.Skipping.{SkippedAll, SkippedNext, SkippedOne, SkippedValue};
 ghost use Rattle.bcder.specs.steps.Stacked.{Counts, Gone, IsCounted};
 ghost use Rattle.bcder.specs.steps.Stacked.{LeavesInnermost, RanOverSource};
@@ -17,7 +16,7 @@ ghost use Rattle.bcder.specs.steps.Stacked.{interrupt_cause, limit_around};
 ghost use Rattle.bcder.specs.steps.Stacked.{limit_in};
 ghost use Rattle.bcder.specs.steps.Stacked.{source_of, unwound};
 ghost use Rattle.bcder.specs.calls.Views.{after, before, Moved};
-ghost use Rattle.bcder.specs.calls.Walking.{Between, ExactlyNext};
+ghost use Rattle.bcder.specs.calls.Walking.{Between};
 ghost use Rattle.bcder.specs.steps.WalkSteps.{Fault, NoFault};
 
 use super::inside::go_inside;
@@ -374,7 +373,6 @@ impl<'a, S: Source> Constructed<'a, S> {
         requires { F.IsAlwaysCallable op.old }
         ensures moves { Moved S.stream self }
         ensures skipped { SkippedNext S.stream F.step self op result }
-        ensures exact { ExactlySkipped S.stream F.step self op result }
     {
         self.skip_next(alloc, op)
     }
@@ -394,7 +392,6 @@ impl<'a, S: Source> Constructed<'a, S> {
         requires { F.IsAlwaysCallable op.old }
         ensures moves { Moved S.stream self }
         ensures skipped { SkippedValue S.stream F.step self op result }
-        ensures exact { ExactlyValue S.stream F.step self op result }
     {
         match self.skip_opt(alloc, op) {
             Ok(Some(())) => Ok(()),
@@ -470,7 +467,6 @@ impl<'a, S: Source> Constructed<'a, S> {
     pub fn skip_one(&mut self, alloc: Global) -> Result<Option<()>, DecodeError<S::Error>>
         ensures moves { Moved S.stream self }
         ensures skipped { SkippedOne S.stream self result }
-        ensures exact { FoundMemory result → ExactlyNext S.stream self result }
     {
         match self.pass_at_hand(Lookahead::Short) {
             Ok(true) => Ok(Some(())),
@@ -487,7 +483,6 @@ impl<'a, S: Source> Constructed<'a, S> {
     pub fn skip_all(&mut self, alloc: Global) -> Result<(), DecodeError<S::Error>>
         ensures moves { Moved S.stream self }
         ensures skipped { SkippedAll S.stream self result }
-        ensures exact { ExactlyAll S.stream self result }
     {
         while self.skip_one(alloc)?.is_some() {}
         Ok(())

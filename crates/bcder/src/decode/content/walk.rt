@@ -6,7 +6,7 @@ ghost use Rattle.bcder.specs.x690.Identifier.{Tag as TagValue};
 ghost use Rattle.bcder.specs.steps.Peek.{len_of};
 ghost use Rattle.bcder.specs.calls.Content.{Moves, FitsOwed, values, Resembles};
 ghost use Rattle.bcder.specs.calls.Calls.{RanOver};
-ghost use Rattle.bcder.specs.calls.Walking.{Between, PassedNext, ExactlyNext};
+ghost use Rattle.bcder.specs.calls.Walking.{Between, PassedNext};
 ghost use Rattle.bcder.specs.steps.WalkSteps.{NoFault, Fault, PassedStep};
 ghost use Rattle.bcder.specs.steps.WalkSteps.{PassedOver, PassedAtOnce, WalkedOver};
 ghost use Rattle.bcder.specs.x690.Grammar.{BeginsWhole};
@@ -39,7 +39,6 @@ use crate::plain::{short_size, size_within};
 pub fn walk<S: Source>(cons: &mut Constructed<'_, S>) -> Result<Option<()>, DecodeError<S::Error>>
     ensures moves { Moved S.stream cons }
     ensures passed { PassedNext S.stream cons result }
-    ensures exact { ExactlyNext S.stream cons result }
 {
     match cons.pass_at_hand(Lookahead::Short) {
         Ok(true) => Ok(Some(())),

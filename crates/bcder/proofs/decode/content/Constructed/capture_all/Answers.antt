@@ -4,7 +4,7 @@ use Rattle.bcder.specs.calls.CapturingValues.{CapturesValues, HasOthers, HasValu
 use Rattle.bcder.specs.calls.Views.{of_constructed}
 use Rattle.bcder.specs.laws.Moved.{untouched_is_moved}
 use Rattle.bcder.proofs.SameBorrow.{constructed_form}
-use Rattle.bcder.proofs.CapturingValues.{others_of, end_usable, all_deep, all_kept, holds_values, captures_by, exactly_all}
+use Rattle.bcder.proofs.CapturingValues.{others_of, end_usable, all_deep, all_kept, holds_values, captures_by}
 use Rattle.bcder.proofs.decode.content.Constructed.capture_all.Goals as goal
 
 pub returns-clause-captured : goal.returns-clause-captured
@@ -15,13 +15,3 @@ returns-clause-captured g c =
     (λ p r q x. search rules) others_of end_usable all_deep all_kept CapturesValues _ _
     (λ k h q m. holds_values _ _ _ _ k h (constructed_form g.S.Source.stream c.args.self.now) (c.capture.ensures.moves old (untouched_is_moved old)) q m)
     c.capture.result c.capture.ensures.captured c.capture.ensures.refused c.capture.ensures.mode
-
-pub returns-clause-exact : goal.returns-clause-exact
-unfolding of_constructed
-returns-clause-exact g c =
-    let old = of_constructed g.S.Source.stream c.args.self.now in
-    exactly_all _ _ c.capture.result
-    (captures_by (of_captured g.S.Source.stream) _ PassesToEnd HasOthers MetDeep HasValuesOrDeep
-    (λ p r q x. search rules) others_of end_usable all_deep all_kept CapturesValues _ _
-    (λ k h q m. holds_values _ _ _ _ k h (constructed_form g.S.Source.stream c.args.self.now) (c.capture.ensures.moves old (untouched_is_moved old)) q m)
-    c.capture.result c.capture.ensures.captured c.capture.ensures.refused c.capture.ensures.mode)

@@ -1,9 +1,9 @@
 use Rattle.std.proofs.Common.{rules}
 use Rattle.bcder.specs.calls.Capturing.{of_captured}
-use Rattle.bcder.specs.calls.CapturingValues.{BeginsDeep, HasValueOrDeep, CapturesValue, HasNoValue}
-use Rattle.bcder.specs.calls.Walking.{PassesValue}
+use Rattle.bcder.specs.calls.CapturingValues.{BeginsDeep, HasValueOrDeep, CapturesValue}
+use Rattle.bcder.specs.calls.Walking.{HasNoValue, PassesValue}
 use Rattle.bcder.specs.calls.Views.{of_constructed}
-use Rattle.bcder.proofs.CapturingValues.{no_value_of, value_usable, one_deep, one_kept, holds_value, captures_by, exactly_one}
+use Rattle.bcder.proofs.CapturingValues.{no_value_of, value_usable, one_deep, one_kept, holds_value, captures_by}
 use Rattle.bcder.proofs.decode.content.Constructed.capture_one.Goals as goal
 
 pub returns-clause-captured : goal.returns-clause-captured
@@ -12,11 +12,3 @@ returns-clause-captured g c =
     captures_by (of_captured g.S.Source.stream) _ PassesValue HasNoValue BeginsDeep HasValueOrDeep
     (λ p r q x. search rules) no_value_of value_usable one_deep one_kept CapturesValue _ _
     (λ k h v m. holds_value _ _ _ _ k h v m) c.capture.result c.capture.ensures.captured c.capture.ensures.refused c.capture.ensures.mode
-
-pub returns-clause-exact : goal.returns-clause-exact
-unfolding of_constructed
-returns-clause-exact g c =
-    exactly_one _ _ c.capture.result
-    (captures_by (of_captured g.S.Source.stream) _ PassesValue HasNoValue BeginsDeep HasValueOrDeep
-    (λ p r q x. search rules) no_value_of value_usable one_deep one_kept CapturesValue _ _
-    (λ k h v m. holds_value _ _ _ _ k h v m) c.capture.result c.capture.ensures.captured c.capture.ensures.refused c.capture.ensures.mode)

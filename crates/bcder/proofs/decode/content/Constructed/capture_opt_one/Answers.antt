@@ -1,9 +1,8 @@
-use Rattle.std.specs.Prelude.{Ok, Err, Some, None}
 use Rattle.bcder.specs.steps.StopCause.{stop_cause}
 use Rattle.bcder.specs.calls.Views.{of_constructed}
 use Rattle.bcder.specs.laws.Moved.{untouched_is_moved, moved_twice_is_moved, moved_carries}
 use Rattle.bcder.proofs.SameBorrow.{within_constructed}
-use Rattle.bcder.proofs.CapturingValues.{as_failed, next_captured, next_failed, failed_moves, next_ended, next_stopped, exactly_next}
+use Rattle.bcder.proofs.CapturingValues.{next_captured, next_failed, failed_moves, next_ended, next_stopped}
 use Rattle.bcder.proofs.decode.content.Constructed.capture_opt_one.Goals as goal
 
 pub returns-in-Ok-clause-moves : goal.returns-in-Ok-clause-moves
@@ -18,15 +17,6 @@ returns-in-Ok-clause-captured g c =
     let k = of_constructed g.S.Source.stream c.capture_one.new.self in
     let f = rw c.in-Ok-Some.field-0-is at c.in-Ok-Some.ensures.found in
     next_captured i j f c.in-Ok-Some.ensures.no_fault k c.in-Ok.captured c.in-Ok.ensures.captured
-
-pub returns-in-Ok-clause-exact : goal.returns-in-Ok-clause-exact
-returns-in-Ok-clause-exact g c =
-    let i = of_constructed g.S.Source.stream c.args.self.now in
-    let j = of_constructed g.S.Source.stream c.find_next.new.self in
-    let k = of_constructed g.S.Source.stream c.capture_one.new.self in
-    let f = rw c.in-Ok-Some.field-0-is at c.in-Ok-Some.ensures.found in
-    exactly_next i k (within_constructed g.S.Source.stream g.met.S.Source.sound c.args.self.now) (Ok (Some c.in-Ok.captured))
-    (next_captured i j f c.in-Ok-Some.ensures.no_fault k c.in-Ok.captured c.in-Ok.ensures.captured)
 
 pub returns-in-Err-capture_one-clause-moves : goal.returns-in-Err-capture_one-clause-moves
 unfolding of_constructed
@@ -47,16 +37,6 @@ returns-in-Err-capture_one-clause-captured g c =
     let f = rw c.in-Ok-Some.field-0-is at c.in-Ok-Some.ensures.found in
     next_failed i j f c.in-Ok-Some.ensures.no_fault k c.in-Err-capture_one.error c.in-Err-capture_one.ensures.captured
 
-pub returns-in-Err-capture_one-clause-exact : goal.returns-in-Err-capture_one-clause-exact
-unfolding of_constructed
-returns-in-Err-capture_one-clause-exact g c =
-    let i = of_constructed g.S.Source.stream c.args.self.now in
-    let j = of_constructed g.S.Source.stream c.find_next.new.self in
-    let k = of_constructed g.S.Source.stream c.capture_one.new.self in
-    let f = rw c.in-Ok-Some.field-0-is at c.in-Ok-Some.ensures.found in
-    exactly_next i (as_failed k) (within_constructed g.S.Source.stream g.met.S.Source.sound c.args.self.now) (Err c.in-Err-capture_one.error)
-    (next_failed i j f c.in-Ok-Some.ensures.no_fault k c.in-Err-capture_one.error c.in-Err-capture_one.ensures.captured)
-
 pub returns-in-Ok-None-clause-moves : goal.returns-in-Ok-None-clause-moves
 returns-in-Ok-None-clause-moves g c = moved_carries _ _ c.find_next.ensures.moves
 
@@ -68,14 +48,6 @@ returns-in-Ok-None-clause-captured g c =
     let n = rw c.in-Ok-None.field-0-is at c.in-Ok-None.ensures.none in
     next_ended i k n c.find_next.ensures.mode
 
-pub returns-in-Ok-None-clause-exact : goal.returns-in-Ok-None-clause-exact
-unfolding of_constructed
-returns-in-Ok-None-clause-exact g c =
-    let i = of_constructed g.S.Source.stream c.args.self.now in
-    let k = of_constructed g.S.Source.stream c.find_next.new.self in
-    let n = rw c.in-Ok-None.field-0-is at c.in-Ok-None.ensures.none in
-    exactly_next i k (within_constructed g.S.Source.stream g.met.S.Source.sound c.args.self.now) (Ok None) (next_ended i k n c.find_next.ensures.mode)
-
 pub returns-in-Err-clause-moves : goal.returns-in-Err-clause-moves
 returns-in-Err-clause-moves g c = moved_carries _ _ c.find_next.ensures.moves
 
@@ -86,12 +58,3 @@ returns-in-Err-clause-captured g c =
     let k = of_constructed g.S.Source.stream c.find_next.new.self in
     next_stopped stop_cause c.in-Err.stop c.stop_error.result i k (within_constructed g.S.Source.stream g.met.S.Source.sound c.args.self.now)
     c.stop_error.ensures c.in-Err.ensures.refused c.in-Err.ensures.failed c.find_next.ensures.mode c.find_next.ensures.marked
-
-pub returns-in-Err-clause-exact : goal.returns-in-Err-clause-exact
-unfolding of_constructed
-returns-in-Err-clause-exact g c =
-    let i = of_constructed g.S.Source.stream c.args.self.now in
-    let k = of_constructed g.S.Source.stream c.find_next.new.self in
-    let w = within_constructed g.S.Source.stream g.met.S.Source.sound c.args.self.now in
-    exactly_next i k w (Err c.stop_error.result) (next_stopped stop_cause c.in-Err.stop c.stop_error.result i k w c.stop_error.ensures c.in-Err.ensures.refused
-    c.in-Err.ensures.failed c.find_next.ensures.mode c.find_next.ensures.marked)

@@ -6,7 +6,7 @@ use Rattle.bcder.specs.calls.Views.{of_constructed}
 use Rattle.bcder.specs.laws.Moved.{moved_carries, untouched_is_moved, moved_twice_is_moved}
 use Rattle.bcder.proofs.SameBorrow.{within_constructed, constructed_form}
 use Rattle.bcder.specs.calls.Skipping.{RefusesSkipAll}
-use Rattle.bcder.proofs.SkipCalls.{loop_refused, all_exact}
+use Rattle.bcder.proofs.SkipCalls.{loop_refused}
 use Rattle.bcder.proofs.WalkCalls.{some_value, none_value}
 use Rattle.bcder.proofs.WalkSteps.{all_refused, walks_refl, walks_value, walks_all, value_shorter}
 use Rattle.bcder.proofs.decode.content.Constructed.skip_all.Goals as goal
@@ -31,17 +31,6 @@ returns-in_err-skip_one-clause-skipped g c =
     c.in_err-skip_one.ensures.skipped.failed
     (c.skip_one.ensures.skipped.mode ∙ c.loop.invariant.walks.mode)
     (c.skip_one.ensures.skipped.marked ∙ c.loop.invariant.walks.marked)
-
-pub returns-in_err-skip_one-clause-exact : goal.returns-in_err-skip_one-clause-exact
-returns-in_err-skip_one-clause-exact g c =
-    let i = of_constructed g.S.Source.stream c.args.self.now in
-    let j = of_constructed g.S.Source.stream c.loop.self in
-    let k = of_constructed g.S.Source.stream c.skip_one.new.self in
-    λ n m o h. all_exact i k _ (all_refused (RefusesSkipAll cause_of) i k c.from_residual.result _ c.from_residual.ensures.1
-    (loop_refused cause_of _ i j k (constructed_form g.S.Source.stream c.args.self.now) c.loop.invariant.walks c.in_err-skip_one.ensures.skipped.refused)
-    c.in_err-skip_one.ensures.skipped.failed
-    (c.skip_one.ensures.skipped.mode ∙ c.loop.invariant.walks.mode)
-    (c.skip_one.ensures.skipped.marked ∙ c.loop.invariant.walks.marked)) n m o h
 
 pub loop-smaller : goal.loop-smaller
 loop-smaller g c =

@@ -1,23 +1,16 @@
 use Rattle.std.proofs.Common.{◌∙◌}
-use Rattle.std.specs.Prelude.{Ok, Err, Some}
+use Rattle.std.specs.Prelude.{Ok, Err}
 use Rattle.bcder.specs.calls.Cause.{cause_of}
 use Rattle.bcder.specs.steps.StopCause.{stop_cause}
 use Rattle.bcder.specs.calls.Views.{of_constructed}
-use Rattle.bcder.specs.calls.Walking.{source}
+use Rattle.bcder.specs.calls.Refusals.{source}
 use Rattle.bcder.specs.laws.Moved.{moved_carries, moved_twice_is_moved}
-use Rattle.bcder.proofs.SameBorrow.{within_constructed}
 use Rattle.bcder.proofs.Passing.{looked_next}
 use Rattle.bcder.proofs.Stopping.{walk_stopped}
-use Rattle.bcder.proofs.WalkCalls.{answers_next}
 use Rattle.bcder.proofs.decode.content.walk.walk.Goals as goal
 
 pub returns-in-Ok-true-clause-moves : goal.returns-in-Ok-true-clause-moves
 returns-in-Ok-true-clause-moves g c = moved_carries _ _ c.pass_at_hand.ensures.moves
-
-pub returns-in-Ok-true-clause-exact : goal.returns-in-Ok-true-clause-exact
-returns-in-Ok-true-clause-exact g c =
-    answers_next cause_of (of_constructed g.S.Source.stream c.args.cons.now) (of_constructed g.S.Source.stream c.pass_at_hand.new.self) (Ok (Some _))
-    (within_constructed g.S.Source.stream g.met.S.Source.sound c.args.cons.now) (c.in-Ok-true.ensures.passed.passed c.in-Ok-true.field-0-test) tt tt
 
 pub returns-in-Ok-clause-moves : goal.returns-in-Ok-clause-moves
 returns-in-Ok-clause-moves g c = moved_carries _ _ (moved_twice_is_moved _ _ _ c.pass_at_hand.ensures.moves c.walk_copy.ensures.moves)
@@ -28,14 +21,6 @@ returns-in-Ok-clause-passed g c =
     (of_constructed g.S.Source.stream c.walk_copy.new.cons)
     (c.in-Ok-false.ensures.passed.same c.in-Ok-false.field-0-test) c.in-Ok-false.ensures.passed.no_fault (Ok c.in-Ok.passed) c.in-Ok.ensures.passed in
     record { value = p.value; end = p.end; done = p.done; no_fault = p.no_fault; refused = tt; failed = tt; mode = p.mode; marked = p.marked }
-
-pub returns-in-Ok-clause-exact : goal.returns-in-Ok-clause-exact
-returns-in-Ok-clause-exact g c =
-    let p = looked_next stop_cause (of_constructed g.S.Source.stream c.args.cons.now) (of_constructed g.S.Source.stream c.pass_at_hand.new.self)
-    (of_constructed g.S.Source.stream c.walk_copy.new.cons)
-    (c.in-Ok-false.ensures.passed.same c.in-Ok-false.field-0-test) c.in-Ok-false.ensures.passed.no_fault (Ok c.in-Ok.passed) c.in-Ok.ensures.passed in
-    answers_next cause_of (of_constructed g.S.Source.stream c.args.cons.now) (of_constructed g.S.Source.stream c.walk_copy.new.cons) (Ok c.in-Ok.passed)
-    (within_constructed g.S.Source.stream g.met.S.Source.sound c.args.cons.now) p.value p.end tt
 
 pub returns-in-Err-walk_copy-clause-moves : goal.returns-in-Err-walk_copy-clause-moves
 returns-in-Err-walk_copy-clause-moves g c = moved_carries _ _ (moved_twice_is_moved _ _ _ c.pass_at_hand.ensures.moves c.walk_copy.ensures.moves)
@@ -56,15 +41,6 @@ returns-in-Err-walk_copy-clause-passed g c =
       marked = p.marked;
     }
 
-pub returns-in-Err-walk_copy-clause-exact : goal.returns-in-Err-walk_copy-clause-exact
-returns-in-Err-walk_copy-clause-exact g c =
-    let p = looked_next stop_cause (of_constructed g.S.Source.stream c.args.cons.now) (of_constructed g.S.Source.stream c.pass_at_hand.new.self)
-    (of_constructed g.S.Source.stream c.walk_copy.new.cons) (c.in-Ok-false.ensures.passed.same c.in-Ok-false.field-0-test)
-    c.in-Ok-false.ensures.passed.no_fault (Err c.in-Err-walk_copy.stop) c.in-Err-walk_copy.ensures.passed in
-    answers_next cause_of (of_constructed g.S.Source.stream c.args.cons.now) (of_constructed g.S.Source.stream c.walk_copy.new.cons) (Err c.stop_error.result)
-    (within_constructed g.S.Source.stream g.met.S.Source.sound c.args.cons.now) tt tt
-    (walk_stopped stop_cause cause_of _ _ c.stop_error.ensures _ _ p.refused)
-
 pub returns-in-Err-clause-moves : goal.returns-in-Err-clause-moves
 returns-in-Err-clause-moves g c = moved_carries _ _ c.pass_at_hand.ensures.moves
 
@@ -81,10 +57,3 @@ returns-in-Err-clause-passed g c =
       mode = p.mode;
       marked = p.marked;
     }
-
-pub returns-in-Err-clause-exact : goal.returns-in-Err-clause-exact
-returns-in-Err-clause-exact g c =
-    let p = c.in-Err.ensures.passed in
-    answers_next cause_of (of_constructed g.S.Source.stream c.args.cons.now) (of_constructed g.S.Source.stream c.pass_at_hand.new.self)
-    (Err c.stop_error-in-Err.result) (within_constructed g.S.Source.stream g.met.S.Source.sound c.args.cons.now) tt tt
-    (source (c.stop_error-in-Err.ensures ∙ p.fault.0) p.fault.1)

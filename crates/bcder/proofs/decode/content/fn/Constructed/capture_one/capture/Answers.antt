@@ -1,4 +1,4 @@
-use Rattle.bcder.specs.calls.CapturingValues.{nothing}
+use Rattle.bcder.specs.calls.Refusals.{nothing}
 use Rattle.bcder.specs.calls.Capturing.{of_captured}
 use Rattle.bcder.specs.calls.Cause.{cause_of}
 use Rattle.bcder.specs.calls.Sources.{capturing}
