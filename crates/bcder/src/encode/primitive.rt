@@ -219,7 +219,7 @@ impl<P: PrimitiveContent> Encoder for Primitive<P> {
 
     #[inline(always)]
     #[tactic(auto, using(crate::proofs::Noting::nothing_noted))]
-    fn measured(&self, mode: Mode, _sizes: &mut Sizes) -> Result<usize, EncodeError> {
+    fn measured<Pass>(&self, mode: Mode, _sizes: &mut Sizes) -> Result<usize, EncodeError> {
         value_len(self.tag, &self.prim, mode)
     }
 

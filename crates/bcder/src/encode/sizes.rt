@@ -6,6 +6,15 @@
 //! value whose size isn't noted measures its inside once more, and notes the sizes there anew.
 ghost use Rattle.std.specs.Prelude.{◌≡◌, ◌≢◌, ◌≤◌, ◌+◌, ℕ, List, [], ◌∷◌, ◌++◌, length, IsTrue};
 
+/// Measures values for the first time, before any of them is written.
+///
+/// This and [`Again`] do the same. They are compiled apart, so that at each level of values one
+/// place measures first, and a compiler puts all levels into one function.
+pub(crate) struct First;
+
+/// Measures values once more, since their sizes weren't noted.
+pub(crate) struct Again;
+
 /// The sizes of what is inside values, in the order in which length octets need them.
 #[doc(hidden)]
 #[derive(Clone, Copy, Debug)]

@@ -19,7 +19,7 @@ pub(crate) mod slice;
 mod tuples;
 
 use crate::captured::Captured;
-use crate::encode::sizes::{Sizes, SizesLeft};
+use crate::encode::sizes::{First, Sizes, SizesLeft};
 use crate::encode::slot::{Failed, into_result, slot, store};
 use crate::encode::values::constructed::Constructed;
 use crate::encode::{EncodeError, WriteError};
@@ -56,14 +56,15 @@ pub trait Values {
         ensures { SizeOfValues (means self.now mode) (may_lack self.now mode) result };
 
     /// Returns the number of octets of the encoding, like `encoded_len`, and notes the sizes that
-    /// writing needs for length octets, so that none is computed again.
+    /// writing needs for length octets, so that none is computed again. `Pass` tells the first
+    /// measuring from one while a value is written; both do the same.
     ///
     /// # Errors
     ///
     /// Returns the errors of `encoded_len`.
     #[doc(hidden)]
     #[inline(always)]
-    fn note_sizes(&self, mode: Mode, sizes: &mut Sizes) -> Result<usize, EncodeError>
+    fn note_sizes<Pass>(&self, mode: Mode, sizes: &mut Sizes) -> Result<usize, EncodeError>
         requires { can_encode self.now }
         ensures sized { SizeOfValues (means self.now mode) (may_lack self.now mode) result }
         ensures noted { IfOk result (λ _. Notes (reads self.now mode) sizes.old sizes.new) }
@@ -158,7 +159,7 @@ pub trait Encoder {
     ghost can: { Self → Type 0 } = { λ _. ⊤ };
 
     /// Returns the number of octets of the encoding, and notes the sizes that writing needs.
-    fn measured(&self, mode: Mode, sizes: &mut Sizes) -> Result<usize, EncodeError>
+    fn measured<Pass>(&self, mode: Mode, sizes: &mut Sizes) -> Result<usize, EncodeError>
         requires { can self.now }
         ensures sized { SizeOfValues (all self.now mode) (lacks self.now mode) result }
         ensures noted { IfOk result (λ _. Notes (takes self.now mode) sizes.old sizes.new) };
@@ -195,12 +196,12 @@ impl<E: Encoder> Values for E {
     fn encoded_len(&self, mode: Mode) -> Result<usize, EncodeError> {
         let mut sizes = Sizes::new();
         sizes.close();
-        self.measured(mode, &mut sizes)
+        self.measured::<First>(mode, &mut sizes)
     }
 
     #[inline(always)]
-    fn note_sizes(&self, mode: Mode, sizes: &mut Sizes) -> Result<usize, EncodeError> {
-        self.measured(mode, sizes)
+    fn note_sizes<Pass>(&self, mode: Mode, sizes: &mut Sizes) -> Result<usize, EncodeError> {
+        self.measured::<Pass>(mode, sizes)
     }
 
     fn write_encoded<W: io::Write>(&self, mode: Mode, target: &mut W) -> Result<(), WriteError> {
@@ -237,7 +238,7 @@ fn measure_first<E: Encoder>(
     ensures sized { SizeOfValues (E.all encoder.now mode) (E.lacks encoder.now mode) result }
     ensures noted { IfOk result (λ _. MayRead (E.takes encoder.now mode) (noted sizes.new)) }
 {
-    encoder.measured(mode, sizes)
+    encoder.measured::<First>(mode, sizes)
 }
 
 impl<V: Values> Encoder for &'_ V {
@@ -250,8 +251,8 @@ impl<V: Values> Encoder for &'_ V {
     ghost can = { λ x. V.can_encode x.now };
 
     #[inline(always)]
-    fn measured(&self, mode: Mode, sizes: &mut Sizes) -> Result<usize, EncodeError> {
-        (**self).note_sizes(mode, sizes)
+    fn measured<Pass>(&self, mode: Mode, sizes: &mut Sizes) -> Result<usize, EncodeError> {
+        (**self).note_sizes::<Pass>(mode, sizes)
     }
 
     #[inline(always)]
@@ -270,7 +271,7 @@ impl<V: Values> Encoder for &'_ V {
 
 /// Returns the number of octets of the values. Notes it ahead of the sizes inside.
 #[inline(always)]
-pub(crate) fn note_inside<V: Values>(
+pub(crate) fn note_inside<Pass, V: Values>(
     values: &V,
     mode: Mode,
     sizes: &mut Sizes,
@@ -281,7 +282,7 @@ pub(crate) fn note_inside<V: Values>(
         (ReadsInside (V.means values.now mode) (V.reads values.now mode)) sizes.old sizes.new) }
 {
     let place = sizes.reserve();
-    let len = values.note_sizes(mode, sizes)?;
+    let len = values.note_sizes::<Pass>(mode, sizes)?;
     sizes.fill(place, len);
     Ok(len)
 }
@@ -301,6 +302,6 @@ pub(crate) fn measure<V: Values>(
 {
     match mode {
         Mode::Cer => values.encoded_len(mode),
-        Mode::Ber | Mode::Der => values.note_sizes(mode, sizes),
+        Mode::Ber | Mode::Der => values.note_sizes::<First>(mode, sizes),
     }
 }

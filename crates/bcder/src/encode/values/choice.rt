@@ -25,7 +25,7 @@ impl Encoder for Nothing {
 
     #[inline(always)]
     #[tactic(auto, using(crate::proofs::Noting::nothing_noted))]
-    fn measured(&self, _mode: Mode, _sizes: &mut Sizes) -> Result<usize, EncodeError> {
+    fn measured<Pass>(&self, _mode: Mode, _sizes: &mut Sizes) -> Result<usize, EncodeError> {
         Ok(0)
     }
 
@@ -56,10 +56,10 @@ impl<V: Values> Encoder for Option<V> {
 
     #[tactic(auto, using(crate::proofs::Noting::nothing_noted))]
     #[inline(always)]
-    fn measured(&self, mode: Mode, sizes: &mut Sizes) -> Result<usize, EncodeError> {
+    fn measured<Pass>(&self, mode: Mode, sizes: &mut Sizes) -> Result<usize, EncodeError> {
         match self {
-            Some(values) => values.note_sizes(mode, sizes),
-            None => Nothing.note_sizes(mode, sizes),
+            Some(values) => values.note_sizes::<Pass>(mode, sizes),
+            None => Nothing.note_sizes::<Pass>(mode, sizes),
         }
     }
 
@@ -99,10 +99,10 @@ impl<L: Values, R: Values> Encoder for Choice2<L, R> {
     ghost can = { λ x. EitherHolds L.can_encode R.can_encode x };
 
     #[inline(always)]
-    fn measured(&self, mode: Mode, sizes: &mut Sizes) -> Result<usize, EncodeError> {
+    fn measured<Pass>(&self, mode: Mode, sizes: &mut Sizes) -> Result<usize, EncodeError> {
         match self {
-            Choice2::One(values) => values.note_sizes(mode, sizes),
-            Choice2::Two(values) => values.note_sizes(mode, sizes),
+            Choice2::One(values) => values.note_sizes::<Pass>(mode, sizes),
+            Choice2::Two(values) => values.note_sizes::<Pass>(mode, sizes),
         }
     }
 
@@ -149,11 +149,11 @@ impl<L: Values, C: Values, R: Values> Encoder for Choice3<L, C, R> {
     ghost can = { λ x. AnyHolds L.can_encode C.can_encode R.can_encode x };
 
     #[inline(always)]
-    fn measured(&self, mode: Mode, sizes: &mut Sizes) -> Result<usize, EncodeError> {
+    fn measured<Pass>(&self, mode: Mode, sizes: &mut Sizes) -> Result<usize, EncodeError> {
         match self {
-            Choice3::One(values) => values.note_sizes(mode, sizes),
-            Choice3::Two(values) => values.note_sizes(mode, sizes),
-            Choice3::Three(values) => values.note_sizes(mode, sizes),
+            Choice3::One(values) => values.note_sizes::<Pass>(mode, sizes),
+            Choice3::Two(values) => values.note_sizes::<Pass>(mode, sizes),
+            Choice3::Three(values) => values.note_sizes::<Pass>(mode, sizes),
         }
     }
 

@@ -13,7 +13,7 @@ ghost use Rattle.bcder.specs.steps.Places.{ReservesContents, FillsContents};
 ghost use Rattle.bcder.specs.laws.Meanings.{constructed_lawful};
 
 use crate::encode::header::put_header;
-use crate::encode::sizes::{Sizes, SizesLeft};
+use crate::encode::sizes::{Again, Sizes, SizesLeft};
 use crate::encode::slot::{Failed, into_result, slot, store_refusal};
 use crate::encode::target::put_all;
 use crate::encode::values::{Encoder, Values};
@@ -106,7 +106,11 @@ fn size_behind(identifier: usize, _tag: Tag, mode: Mode, len: usize) -> Result<u
 /// Returns the number of contents octets of a constructed value. If length octets need it, it is
 /// noted ahead of the sizes inside.
 #[inline(always)]
-fn note_contents<V: Values>(inner: &V, mode: Mode, sizes: &mut Sizes) -> Result<usize, EncodeError>
+fn note_contents<Pass, V: Values>(
+    inner: &V,
+    mode: Mode,
+    sizes: &mut Sizes,
+) -> Result<usize, EncodeError>
     requires { V.can_encode inner.now }
     ensures sized { SizeOfValues (V.means inner.now mode) (V.may_lack inner.now mode) result }
     ensures noted { IfOk result (λ _. Notes
@@ -114,7 +118,7 @@ fn note_contents<V: Values>(inner: &V, mode: Mode, sizes: &mut Sizes) -> Result<
         sizes.old sizes.new) }
 {
     let place = reserve_contents(mode, sizes);
-    let len = inner.note_sizes(mode, sizes)?;
+    let len = inner.note_sizes::<Pass>(mode, sizes)?;
     fill_contents(mode, place, len, sizes);
     Ok(len)
 }
@@ -239,7 +243,7 @@ fn put_measured<V: Values, W: io::Write>(
         (V.may_lack value.now.inner mode) (into_result result why.new) }
 {
     let mut sizes = Sizes::new();
-    match value.inner.note_sizes(mode, &mut sizes) {
+    match value.inner.note_sizes::<Again>(mode, &mut sizes) {
         Ok(size) => put_enclosed(value, size, mode, &mut sizes.left(), target, why),
         Err(error) => Err(store_refusal(why, error)),
     }
@@ -256,11 +260,11 @@ impl<V: Values> Encoder for Constructed<V> {
     ghost can = { λ x. V.can_encode x.inner };
 
     #[inline(always)]
-    fn measured(&self, mode: Mode, sizes: &mut Sizes) -> Result<usize, EncodeError> {
+    fn measured<Pass>(&self, mode: Mode, sizes: &mut Sizes) -> Result<usize, EncodeError> {
         let Some(identifier) = self.tag.value_len() else {
             return Err(EncodeError::EndOfValueTag);
         };
-        let contents = note_contents(&self.inner, mode, sizes)?;
+        let contents = note_contents::<Pass, _>(&self.inner, mode, sizes)?;
         let whole = size_behind(identifier, self.tag, mode, contents)?;
         Ok(whole)
     }

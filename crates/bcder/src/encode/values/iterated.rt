@@ -76,7 +76,11 @@ where
         T.IntoIter.can_next T.IntoIter.remaining T.Item.can_encode T.Item.means x.value };
 
     #[tactic(auto, using(crate::proofs::Noting::nothing_noted))]
-    fn note_parts(&self, mode: Mode, _sizes: &mut Sizes) -> Result<Option<usize>, EncodeError> {
+    fn note_parts<Pass>(
+        &self,
+        mode: Mode,
+        _sizes: &mut Sizes,
+    ) -> Result<Option<usize>, EncodeError> {
         let items = match self.items() {
             Ok(items) => items,
             Err(_) => return Err(EncodeError::NoMemory),
@@ -125,8 +129,8 @@ where
     ghost can = { λ x. GivesOneList T.is_clone T.into_iter_gives T.IntoIter.next_gives
         T.IntoIter.can_next T.IntoIter.remaining T.Item.can_encode T.Item.means x.value };
 
-    fn measured(&self, mode: Mode, sizes: &mut Sizes) -> Result<usize, EncodeError> {
-        note_joined(self, mode, sizes)
+    fn measured<Pass>(&self, mode: Mode, sizes: &mut Sizes) -> Result<usize, EncodeError> {
+        note_joined::<Pass, _>(self, mode, sizes)
     }
 
     fn put<W: io::Write>(

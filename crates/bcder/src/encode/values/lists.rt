@@ -16,7 +16,7 @@ use std::io;
 /// Returns the number of octets of an item. Notes the sizes that its length octets need, while
 /// there is room.
 #[inline(always)]
-fn note_item<V: Values>(item: &V, mode: Mode, sizes: &mut Sizes) -> Result<usize, EncodeError>
+fn note_item<Pass, V: Values>(item: &V, mode: Mode, sizes: &mut Sizes) -> Result<usize, EncodeError>
     requires { V.can_encode item.now }
     ensures sized { SizeOfValues (V.means item.now mode) (V.may_lack item.now mode) result }
     ensures noted { IfOk result (λ _. Notes (V.reads item.now mode) sizes.old sizes.new) }
@@ -24,7 +24,7 @@ fn note_item<V: Values>(item: &V, mode: Mode, sizes: &mut Sizes) -> Result<usize
     if sizes.is_full() {
         return item.encoded_len(mode);
     }
-    item.note_sizes(mode, sizes)
+    item.note_sizes::<Pass>(mode, sizes)
 }
 
 /// The items of a slice.
@@ -43,10 +43,14 @@ impl<'a, V: Values> Parts for Items<'a, V> {
     ghost can_encode = { λ x. All V.can_encode x.items.now };
 
     #[inline(always)]
-    fn note_parts(&self, mode: Mode, sizes: &mut Sizes) -> Result<Option<usize>, EncodeError> {
+    fn note_parts<Pass>(
+        &self,
+        mode: Mode,
+        sizes: &mut Sizes,
+    ) -> Result<Option<usize>, EncodeError> {
         let mut sum = Some(0usize);
         for item in self.items {
-            let len = note_item(item, mode, sizes)?;
+            let len = note_item::<Pass, _>(item, mode, sizes)?;
             sum = add_len(sum, len);
         }
         Ok(sum)
@@ -79,8 +83,8 @@ impl<V: Values> Encoder for &'_ [V] {
     ghost can = { λ x. All V.can_encode x.now };
 
     #[inline(always)]
-    fn measured(&self, mode: Mode, sizes: &mut Sizes) -> Result<usize, EncodeError> {
-        note_joined(&Items { items: *self }, mode, sizes)
+    fn measured<Pass>(&self, mode: Mode, sizes: &mut Sizes) -> Result<usize, EncodeError> {
+        note_joined::<Pass, _>(&Items { items: *self }, mode, sizes)
     }
 
     fn put<W: io::Write>(
@@ -107,8 +111,8 @@ impl<V: Values> Encoder for Vec<V> {
     ghost can = { λ x. All V.can_encode x.items };
 
     #[inline(always)]
-    fn measured(&self, mode: Mode, sizes: &mut Sizes) -> Result<usize, EncodeError> {
-        self.as_slice().note_sizes(mode, sizes)
+    fn measured<Pass>(&self, mode: Mode, sizes: &mut Sizes) -> Result<usize, EncodeError> {
+        self.as_slice().note_sizes::<Pass>(mode, sizes)
     }
 
     fn put<W: io::Write>(

@@ -99,7 +99,11 @@ impl<'a, F: Fn(&U) -> V, U, V: Values + Drop> Parts for Mapped<'a, F, U, V> {
     ghost can_encode = { λ x. All (MayMap F.Fn x.f.now V.can_encode V.means) x.items.now };
 
     #[tactic(auto, using(crate::proofs::Noting::nothing_noted))]
-    fn note_parts(&self, mode: Mode, _sizes: &mut Sizes) -> Result<Option<usize>, EncodeError> {
+    fn note_parts<Pass>(
+        &self,
+        mode: Mode,
+        _sizes: &mut Sizes,
+    ) -> Result<Option<usize>, EncodeError> {
         let mut sum = Some(0usize);
         for item in self.items {
             let len = item_len(self.f, item, mode)?;
@@ -136,14 +140,14 @@ impl<T: AsSlice<U>, F: Fn(&U) -> V, U, V: Values + Drop> Encoder for Slice<T, F,
 
     ghost can = { λ x. All (MayMap F.Fn x.f V.can_encode V.means) (T.items x.value) };
 
-    fn measured(&self, mode: Mode, sizes: &mut Sizes) -> Result<usize, EncodeError> {
+    fn measured<Pass>(&self, mode: Mode, sizes: &mut Sizes) -> Result<usize, EncodeError> {
         let items = self.value.as_slice();
         let parts = Mapped {
             items,
             f: &self.f,
             marker: PhantomData,
         };
-        note_joined(&parts, mode, sizes)
+        note_joined::<Pass, _>(&parts, mode, sizes)
     }
 
     fn put<W: io::Write>(

@@ -28,7 +28,7 @@ pub(crate) trait Parts {
 
     /// Returns the sum of the sizes, or `None` if it exceeds `usize`, and notes the sizes that
     /// length octets need.
-    fn note_parts(&self, mode: Mode, sizes: &mut Sizes) -> Result<Option<usize>, EncodeError>
+    fn note_parts<Pass>(&self, mode: Mode, sizes: &mut Sizes) -> Result<Option<usize>, EncodeError>
         requires { can_encode self.now }
         ensures sized { TellsSum (all self.now mode) (may_lack self.now mode) result }
         ensures noted { IfOk result (λ _. Notes (reads self.now mode) sizes.old sizes.new) };
@@ -54,7 +54,7 @@ pub(crate) trait Parts {
 
 /// Returns the size of the parts, or the refusal, and notes the sizes that length octets need.
 #[inline(always)]
-pub(crate) fn note_joined<P: Parts>(
+pub(crate) fn note_joined<Pass, P: Parts>(
     parts: &P,
     mode: Mode,
     sizes: &mut Sizes,
@@ -64,7 +64,7 @@ pub(crate) fn note_joined<P: Parts>(
         (Joined (P.all parts.now mode)) (P.may_lack parts.now mode) result }
     ensures noted { IfOk result (λ _. Notes (P.reads parts.now mode) sizes.old sizes.new) }
 {
-    match parts.note_parts(mode, sizes)? {
+    match parts.note_parts::<Pass>(mode, sizes)? {
         Some(len) => Ok(len),
         None => Err(EncodeError::SizeOverflow),
     }
@@ -116,7 +116,11 @@ impl Parts for End {
 
     #[inline(always)]
     #[tactic(auto, using(crate::proofs::Noting::nothing_noted))]
-    fn note_parts(&self, _mode: Mode, _sizes: &mut Sizes) -> Result<Option<usize>, EncodeError> {
+    fn note_parts<Pass>(
+        &self,
+        _mode: Mode,
+        _sizes: &mut Sizes,
+    ) -> Result<Option<usize>, EncodeError> {
         Ok(Some(0))
     }
 
@@ -152,9 +156,13 @@ impl<'a, V: Values, R: Parts> Parts for Chain<'a, V, R> {
     ghost can_encode = { λ x. V.can_encode x.first.now × R.can_encode x.rest };
 
     #[inline(always)]
-    fn note_parts(&self, mode: Mode, sizes: &mut Sizes) -> Result<Option<usize>, EncodeError> {
-        let first = self.first.note_sizes(mode, sizes)?;
-        let rest = self.rest.note_parts(mode, sizes)?;
+    fn note_parts<Pass>(
+        &self,
+        mode: Mode,
+        sizes: &mut Sizes,
+    ) -> Result<Option<usize>, EncodeError> {
+        let first = self.first.note_sizes::<Pass>(mode, sizes)?;
+        let rest = self.rest.note_parts::<Pass>(mode, sizes)?;
         match rest {
             Some(len) => Ok(first.checked_add(len)),
             None => Ok(None),
@@ -187,8 +195,12 @@ impl<R: Parts> Parts for &'_ R {
     ghost can_encode = { λ x. R.can_encode x.now };
 
     #[inline(always)]
-    fn note_parts(&self, mode: Mode, sizes: &mut Sizes) -> Result<Option<usize>, EncodeError> {
-        (**self).note_parts(mode, sizes)
+    fn note_parts<Pass>(
+        &self,
+        mode: Mode,
+        sizes: &mut Sizes,
+    ) -> Result<Option<usize>, EncodeError> {
+        (**self).note_parts::<Pass>(mode, sizes)
     }
 
     fn write_parts<W: io::Write>(
@@ -229,7 +241,11 @@ impl<'a, A: Values, B: Values, C: Values, D: Values, R: Parts> Parts for Four<'a
         × (C.can_encode x.c.now × (D.can_encode x.d.now × R.can_encode x.rest))) };
 
     #[inline(always)]
-    fn note_parts(&self, mode: Mode, sizes: &mut Sizes) -> Result<Option<usize>, EncodeError> {
+    fn note_parts<Pass>(
+        &self,
+        mode: Mode,
+        sizes: &mut Sizes,
+    ) -> Result<Option<usize>, EncodeError> {
         let rest = &self.rest;
         let rest = Chain {
             first: self.d,
@@ -247,7 +263,7 @@ impl<'a, A: Values, B: Values, C: Values, D: Values, R: Parts> Parts for Four<'a
             first: self.a,
             rest,
         };
-        all.note_parts(mode, sizes)
+        all.note_parts::<Pass>(mode, sizes)
     }
 
     fn write_parts<W: io::Write>(

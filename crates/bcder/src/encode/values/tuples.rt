@@ -42,9 +42,9 @@ impl<A: Values> Encoder for (A,) {
     ghost can = { λ x. A.can_encode x.0 × ⊤ };
 
     #[inline(always)]
-    fn measured(&self, mode: Mode, sizes: &mut Sizes) -> Result<usize, EncodeError> {
+    fn measured<Pass>(&self, mode: Mode, sizes: &mut Sizes) -> Result<usize, EncodeError> {
         let (a,) = self;
-        note_joined(&parts!(a), mode, sizes)
+        note_joined::<Pass, _>(&parts!(a), mode, sizes)
     }
 
     fn put<W: io::Write>(
@@ -73,9 +73,9 @@ impl<A: Values, B: Values> Encoder for (A, B) {
     ghost can = { λ x. A.can_encode x.0 × (B.can_encode x.1 × ⊤) };
 
     #[inline(always)]
-    fn measured(&self, mode: Mode, sizes: &mut Sizes) -> Result<usize, EncodeError> {
+    fn measured<Pass>(&self, mode: Mode, sizes: &mut Sizes) -> Result<usize, EncodeError> {
         let (a, b) = self;
-        note_joined(&parts!(a, b), mode, sizes)
+        note_joined::<Pass, _>(&parts!(a, b), mode, sizes)
     }
 
     fn put<W: io::Write>(
@@ -106,9 +106,9 @@ impl<A: Values, B: Values, C: Values> Encoder for (A, B, C) {
     ghost can = { λ x. A.can_encode x.0 × (B.can_encode x.1 × (C.can_encode x.2 × ⊤)) };
 
     #[inline(always)]
-    fn measured(&self, mode: Mode, sizes: &mut Sizes) -> Result<usize, EncodeError> {
+    fn measured<Pass>(&self, mode: Mode, sizes: &mut Sizes) -> Result<usize, EncodeError> {
         let (a, b, c) = self;
-        note_joined(&parts!(a, b, c), mode, sizes)
+        note_joined::<Pass, _>(&parts!(a, b, c), mode, sizes)
     }
 
     fn put<W: io::Write>(
@@ -141,9 +141,9 @@ impl<A: Values, B: Values, C: Values, D: Values> Encoder for (A, B, C, D) {
         (D.can_encode x.3 × ⊤))) };
 
     #[inline(always)]
-    fn measured(&self, mode: Mode, sizes: &mut Sizes) -> Result<usize, EncodeError> {
+    fn measured<Pass>(&self, mode: Mode, sizes: &mut Sizes) -> Result<usize, EncodeError> {
         let (a, b, c, d) = self;
-        note_joined(&parts!(a, b, c, d), mode, sizes)
+        note_joined::<Pass, _>(&parts!(a, b, c, d), mode, sizes)
     }
 
     fn put<W: io::Write>(
@@ -177,9 +177,9 @@ impl<A: Values, B: Values, C: Values, D: Values, E: Values> Encoder for (A, B, C
         (D.can_encode x.3 × (E.can_encode x.4 × ⊤)))) };
 
     #[inline(always)]
-    fn measured(&self, mode: Mode, sizes: &mut Sizes) -> Result<usize, EncodeError> {
+    fn measured<Pass>(&self, mode: Mode, sizes: &mut Sizes) -> Result<usize, EncodeError> {
         let (a, b, c, d, e) = self;
-        note_joined(&parts!(a, b, c, d, e), mode, sizes)
+        note_joined::<Pass, _>(&parts!(a, b, c, d, e), mode, sizes)
     }
 
     fn put<W: io::Write>(
@@ -217,9 +217,9 @@ impl<A: Values, B: Values, C: Values, D: Values, E: Values, F: Values> Encoder
         (D.can_encode x.3 × (E.can_encode x.4 × (F.can_encode x.5 × ⊤))))) };
 
     #[inline(always)]
-    fn measured(&self, mode: Mode, sizes: &mut Sizes) -> Result<usize, EncodeError> {
+    fn measured<Pass>(&self, mode: Mode, sizes: &mut Sizes) -> Result<usize, EncodeError> {
         let (a, b, c, d, e, f) = self;
-        note_joined(&parts!(a, b, c, d, e, f), mode, sizes)
+        note_joined::<Pass, _>(&parts!(a, b, c, d, e, f), mode, sizes)
     }
 
     fn put<W: io::Write>(
@@ -259,9 +259,9 @@ impl<A: Values, B: Values, C: Values, D: Values, E: Values, F: Values, G: Values
         (D.can_encode x.3 × (E.can_encode x.4 × (F.can_encode x.5 × (G.can_encode x.6 × ⊤)))))) };
 
     #[inline(always)]
-    fn measured(&self, mode: Mode, sizes: &mut Sizes) -> Result<usize, EncodeError> {
+    fn measured<Pass>(&self, mode: Mode, sizes: &mut Sizes) -> Result<usize, EncodeError> {
         let (a, b, c, d, e, f, g) = self;
-        note_joined(&parts!(a, b, c, d, e, f, g), mode, sizes)
+        note_joined::<Pass, _>(&parts!(a, b, c, d, e, f, g), mode, sizes)
     }
 
     fn put<W: io::Write>(
@@ -304,9 +304,9 @@ impl<A: Values, B: Values, C: Values, D: Values, E: Values, F: Values, G: Values
         (H.can_encode x.7 × ⊤))))))) };
 
     #[inline(always)]
-    fn measured(&self, mode: Mode, sizes: &mut Sizes) -> Result<usize, EncodeError> {
+    fn measured<Pass>(&self, mode: Mode, sizes: &mut Sizes) -> Result<usize, EncodeError> {
         let (a, b, c, d, e, f, g, h) = self;
-        note_joined(&parts!(a, b, c, d, e, f, g, h), mode, sizes)
+        note_joined::<Pass, _>(&parts!(a, b, c, d, e, f, g, h), mode, sizes)
     }
 
     fn put<W: io::Write>(
@@ -361,9 +361,9 @@ impl<
         (H.can_encode x.7 × (I.can_encode x.8 × ⊤)))))))) };
 
     #[inline(always)]
-    fn measured(&self, mode: Mode, sizes: &mut Sizes) -> Result<usize, EncodeError> {
+    fn measured<Pass>(&self, mode: Mode, sizes: &mut Sizes) -> Result<usize, EncodeError> {
         let (a, b, c, d, e, f, g, h, i) = self;
-        note_joined(&parts!(a, b, c, d, e, f, g, h, i), mode, sizes)
+        note_joined::<Pass, _>(&parts!(a, b, c, d, e, f, g, h, i), mode, sizes)
     }
 
     fn put<W: io::Write>(
@@ -420,9 +420,9 @@ impl<
         (H.can_encode x.7 × (I.can_encode x.8 × (J.can_encode x.9 × ⊤))))))))) };
 
     #[inline(always)]
-    fn measured(&self, mode: Mode, sizes: &mut Sizes) -> Result<usize, EncodeError> {
+    fn measured<Pass>(&self, mode: Mode, sizes: &mut Sizes) -> Result<usize, EncodeError> {
         let (a, b, c, d, e, f, g, h, i, j) = self;
-        note_joined(&parts!(a, b, c, d, e, f, g, h, i, j), mode, sizes)
+        note_joined::<Pass, _>(&parts!(a, b, c, d, e, f, g, h, i, j), mode, sizes)
     }
 
     fn put<W: io::Write>(
@@ -490,9 +490,9 @@ impl<
         ⊤)))))))))) };
 
     #[inline(always)]
-    fn measured(&self, mode: Mode, sizes: &mut Sizes) -> Result<usize, EncodeError> {
+    fn measured<Pass>(&self, mode: Mode, sizes: &mut Sizes) -> Result<usize, EncodeError> {
         let (a, b, c, d, e, f, g, h, i, j, k) = self;
-        note_joined(&parts!(a, b, c, d, e, f, g, h, i, j, k), mode, sizes)
+        note_joined::<Pass, _>(&parts!(a, b, c, d, e, f, g, h, i, j, k), mode, sizes)
     }
 
     fn put<W: io::Write>(
@@ -564,9 +564,9 @@ impl<
         (L.can_encode x.11 × ⊤))))))))))) };
 
     #[inline(always)]
-    fn measured(&self, mode: Mode, sizes: &mut Sizes) -> Result<usize, EncodeError> {
+    fn measured<Pass>(&self, mode: Mode, sizes: &mut Sizes) -> Result<usize, EncodeError> {
         let (a, b, c, d, e, f, g, h, i, j, k, l) = self;
-        note_joined(&parts!(a, b, c, d, e, f, g, h, i, j, k, l), mode, sizes)
+        note_joined::<Pass, _>(&parts!(a, b, c, d, e, f, g, h, i, j, k, l), mode, sizes)
     }
 
     fn put<W: io::Write>(

@@ -119,7 +119,7 @@ impl<T: AsSlice<u8>> Encoder for BitSliceEncoder<T> {
 
     #[inline(always)]
     #[tactic(auto, using(crate::proofs::Noting::nothing_noted))]
-    fn measured(&self, mode: Mode, _sizes: &mut Sizes) -> Result<usize, EncodeError> {
+    fn measured<Pass>(&self, mode: Mode, _sizes: &mut Sizes) -> Result<usize, EncodeError> {
         self.contents().encode_as(self.tag).encoded_len(mode)
     }
 

@@ -121,7 +121,7 @@ impl Encoder for OctetStringEncoder<OctetString> {
 
     #[inline(always)]
     #[tactic(auto, using(crate::proofs::Noting::nothing_noted))]
-    fn measured(&self, mode: Mode, _sizes: &mut Sizes) -> Result<usize, EncodeError> {
+    fn measured<Pass>(&self, mode: Mode, _sizes: &mut Sizes) -> Result<usize, EncodeError> {
         size_of(&self.value, self.tag, mode)
     }
 
@@ -146,7 +146,7 @@ impl Encoder for OctetStringEncoder<&'_ OctetString> {
 
     #[inline(always)]
     #[tactic(auto, using(crate::proofs::Noting::nothing_noted))]
-    fn measured(&self, mode: Mode, _sizes: &mut Sizes) -> Result<usize, EncodeError> {
+    fn measured<Pass>(&self, mode: Mode, _sizes: &mut Sizes) -> Result<usize, EncodeError> {
         size_of(self.value, self.tag, mode)
     }
 

@@ -60,7 +60,7 @@ impl<T: AsSlice<u8>> Encoder for OctetSliceEncoder<T> {
 
     #[inline(always)]
     #[tactic(auto, using(crate::proofs::Noting::nothing_noted))]
-    fn measured(&self, mode: Mode, _sizes: &mut Sizes) -> Result<usize, EncodeError> {
+    fn measured<Pass>(&self, mode: Mode, _sizes: &mut Sizes) -> Result<usize, EncodeError> {
         octets_len(self.tag, self.slice.as_slice(), mode)
     }
 

@@ -12,7 +12,7 @@ use super::OctetString;
 use super::write::{is_cut, put_octets, string_len};
 use crate::encode::buffer::Buffer;
 use crate::encode::header::put_header;
-use crate::encode::sizes::{Sizes, SizesLeft};
+use crate::encode::sizes::{Again, Sizes, SizesLeft};
 use crate::encode::slot::{Failed, store_refusal};
 use crate::encode::target::put_all;
 use crate::encode::values::{Encoder, note_inside};
@@ -165,7 +165,7 @@ fn put_measured<V: Values, W: io::Write>(
         (into_result result why.new) }
 {
     let mut sizes = Sizes::new();
-    match wrapped.values.note_sizes(wrapped.mode, &mut sizes) {
+    match wrapped.values.note_sizes::<Again>(wrapped.mode, &mut sizes) {
         Ok(len) => put_wrapped(wrapped, len, mode, &mut sizes.left(), target, why),
         Err(error) => Err(store_refusal(why, error)),
     }
@@ -200,8 +200,8 @@ impl<V: Values> Encoder for WrappingOctetStringEncoder<V> {
 
     ghost can = { λ x. V.can_encode x.values };
 
-    fn measured(&self, mode: Mode, sizes: &mut Sizes) -> Result<usize, EncodeError> {
-        let len = note_inside(&self.values, self.mode, sizes)?;
+    fn measured<Pass>(&self, mode: Mode, sizes: &mut Sizes) -> Result<usize, EncodeError> {
+        let len = note_inside::<Pass, _>(&self.values, self.mode, sizes)?;
         string_len(Tag::OCTET_STRING, mode, len)
     }
 

@@ -3,4 +3,4 @@ use Rattle.bcder.specs.calls.Joined.{nothing}
 use Rattle.bcder.proofs.encode.values.choice.NothingEncoder.measured.Goals as goal
 
 pub returns-clause-sized : goal.returns-clause-sized
-returns-clause-sized c = (nothing, refl, refl)
+returns-clause-sized g c = (nothing, refl, refl)
