@@ -315,10 +315,6 @@ counts_all w h = record {
   bound = omega arith;
 }
 
-pub counts_shorter : (w rest after : List ℕ) (count : ℕ) (found : Option ℕ) → Counts w rest count → 1 ≤ length rest
-    → read_segment Ber rest ≡ Some (found, after) → length after + 2 ≤ length rest
-counts_shorter w rest after count found c some r = passed_shorter Ber c.left rest after found c.items some r
-
 pub counts_piece : (w rest after : List ℕ) (count n : ℕ) → Counts w rest count → 1 ≤ length rest → read_segment Ber rest ≡ Some (Some n, after)
     → Counts w after (count + 1)
 counts_piece w rest after count n c some r = of_turn (turn Ber c.left rest c.items some)
@@ -466,10 +462,6 @@ pub record Pieces (w rest : List ℕ) (count : ℕ) (full : Bool) : Type 0 where
   pub number : count_of values ≡ count + count_of left
   pub bound : count + length rest ≤ length w
 
-pub pieces_shorter : (w rest after : List ℕ) (count : ℕ) (full : Bool) (found : Option ℕ) → Pieces w rest count full → 1 ≤ length rest
-    → read_segment Cer rest ≡ Some (found, after) → length after + 2 ≤ length rest
-pieces_shorter w rest after count full found c some r = passed_shorter Cer (before c.left no_items) rest after found (all_items Cer c.left rest c.others) some r
-
 -- where no segment that may stand there is read, the string isn't cut so
 pub pieces_none : (w rest : List ℕ) (count : ℕ) (full : Bool) → Pieces w rest count full → 1 ≤ length rest
     → ((n : ℕ) (x : List ℕ) → full ≡ true → IsLast n → read_segment Cer rest ≡ Some (Some n, x) → ⊥) → AreCut Cer w → ⊥
@@ -489,7 +481,7 @@ pieces_more w rest after count n full c some f one most r =
     of_left c.left c.others (λ p. subst (λ b. ArePieces b c.left) f (c.remain p)) (λ p. c.were (subst (λ b. ArePieces b c.left) (sym f) p)) c.number
   where
     shorter_here : length after + 2 ≤ length rest
-    shorter_here = pieces_shorter w rest after count full (Some n) c some r
+    shorter_here = passed_shorter Cer (before c.left no_items) rest after (Some n) (all_items Cer c.left rest c.others) some r
 
     of_left : (ts : Trees) → AreEncodings Cer ts rest → (ArePieces true c.values → ArePieces true ts) → (ArePieces true ts → ArePieces true c.values)
         → count_of c.values ≡ count + count_of ts → Pieces w after (count + 1) (nat_eq n 1000)
@@ -552,22 +544,104 @@ pieces_nested w rest after count full c some r cut =
 pub pieces_unread : (w rest : List ℕ) (count : ℕ) (full : Bool) → Pieces w rest count full → 1 ≤ length rest → read_segment Cer rest ≡ None → AreCut Cer w → ⊥
 pieces_unread w rest count full c some r cut = pieces_none w rest count full c some (λ m x f l q. none_pair _ _ (sym r ∙ q)) cut
 
--- ---- the table of segments
+-- ---- what was passed of a string in a mode
 
-shape_segments : (mode : Mode) (ts : Trees) → AreSegmentsIn mode ts → AreSegments ts
-shape_segments Ber ts h = h
-shape_segments Cer ts h = of_pieces true ts (in_cer ts h).0
+abbrev pub Passed : Mode → List ℕ → List ℕ → ℕ → Bool → Type 0
+Passed Ber w rest count full = Counts w rest count
+Passed Cer w rest count full = Pieces w rest count full
+Passed Der w rest count full = ⊥
+
+-- a segment of n octets may come, behind one that was full or not
+abbrev pub MayCome : Mode → Bool → ℕ → Type 0
+MayCome mode full n = mode ≡ Cer → (full ≡ true) × (1 ≤ n) × (n ≤ 1000)
+
+pub passed_all : (mode : Mode) (w : List ℕ) → (mode ≡ Der → ⊥) → AreWhole mode w → Passed mode w w 0 true
+passed_all Ber w d h = counts_all w h
+passed_all Cer w d h = record {
+  values = h.values;
+  encode = h.encode;
+  left = h.values;
+  others = h.encode;
+  remain = λ p. p;
+  were = λ p. p;
+  number = omega arith;
+  bound = omega arith;
+}
+passed_all Der w d h = d refl
+
+-- the items that are left
+items_left : (mode : Mode) (w rest : List ℕ) (count : ℕ) (full : Bool) → Passed mode w rest count full
+    → (is : Items) × AreItems mode is rest × (length rest ≤ length w)
+items_left Ber w rest count full c = (c.left, c.items, (let b = c.bound in omega (arith, b)))
+items_left Cer w rest count full c = (before c.left no_items, all_items Cer c.left rest c.others, (let b = c.bound in omega (arith, b)))
+items_left Der w rest count full c = absurd c
+
+pub left_shorter : (mode : Mode) (w rest after : List ℕ) (count : ℕ) (full : Bool) (found : Option ℕ) → Passed mode w rest count full → 1 ≤ length rest
+    → read_segment mode rest ≡ Some (found, after) → length after + 2 ≤ length rest
+left_shorter mode w rest after count full found c some r = (let i = items_left mode w rest count full c in passed_shorter mode i.0 rest after found i.1 some r)
+
+-- the segment that is read has room in the octets
+pub left_room : (mode : Mode) (w rest after : List ℕ) (count n : ℕ) (full : Bool) → Passed mode w rest count full → 1 ≤ length rest
+    → read_segment mode rest ≡ Some (Some n, after) → n + length after ≤ length w
+left_room mode w rest after count n full c some r = of_turn (turn mode i.0 rest i.1 some)
   where
-    of_piece : (t : Tree) → IsPiece IsLast t → IsSegment t
-    of_piece (primitive t contents) k = k.0
-    of_piece (constructed t us) k = absurd k
+    i : (is : Items) × AreItems mode is rest × (length rest ≤ length w)
+    i = items_left mode w rest count full c
 
-    of_pieces : (full : Bool) (us : Trees) → ArePieces full us → AreSegments us
-    of_pieces true no_trees k = tt
-    of_pieces false no_trees k = tt
-    of_pieces true (t ∷ₜ us) k = (of_piece t k.0, of_pieces (nat_eq (size_of t) 1000) us k.1)
-    of_pieces false (t ∷ₜ us) k = absurd k
-shape_segments Der ts h = absurd h
+    of_turn : Turn mode i.0 rest → n + length after ≤ length w
+    of_turn (passes contents header others more e split two k q) =
+        let p = some_pair _ _ _ _ (sym q ∙ r) in
+        let l : length contents ≡ n = number_is _ _ p.0 in
+        let b : length rest ≡ length header + (length contents + length others) =
+        ap length split ∙ length-append header (contents ++ others) ∙ ap (λ z. length header + z) (length-append contents others) in
+        omega (arith, i.2, b, l, ap length p.1)
+    of_turn (goes header others more e f g split two k q) = absurd (let p = some_pair _ _ _ _ (sym r ∙ q) in not_none _ p.0)
+    of_turn (stops q x) = absurd (none_pair _ _ (sym q ∙ r))
+
+pub passed_piece : (mode : Mode) (w rest after : List ℕ) (count n : ℕ) (full : Bool) → Passed mode w rest count full → 1 ≤ length rest → MayCome mode full n
+    → read_segment mode rest ≡ Some (Some n, after) → Passed mode w after (count + 1) (nat_eq n 1000)
+passed_piece Ber w rest after count n full c some may r = counts_piece w rest after count n c some r
+passed_piece Cer w rest after count n full c some may r = (let m = may refl in pieces_more w rest after count n full c some m.0 m.1 m.2 r)
+passed_piece Der w rest after count n full c some may r = c
+
+pub passed_mark : (mode : Mode) (w rest after : List ℕ) (count : ℕ) (full : Bool) → Passed mode w rest count full → 1 ≤ length rest → (mode ≡ Cer → ⊥)
+    → read_segment mode rest ≡ Some (None, after) → Passed mode w after count full
+passed_mark Ber w rest after count full c some not_cer r = counts_goes w rest after count c some r
+passed_mark Cer w rest after count full c some not_cer r = absurd (not_cer refl)
+passed_mark Der w rest after count full c some not_cer r = c
+
+-- where none is read, or none that may come, the octets are no segments
+pub passed_none : (mode : Mode) (w rest : List ℕ) (count : ℕ) (full : Bool) → Passed mode w rest count full → 1 ≤ length rest
+    → read_segment mode rest ≡ None → AreCut mode w → ⊥
+passed_none Ber w rest count full c some r cut = counts_none w rest count c some r cut
+passed_none Cer w rest count full c some r cut = pieces_unread w rest count full c some r cut
+passed_none Der w rest count full c some r cut = c
+
+pub passed_other : (mode : Mode) (w rest after : List ℕ) (count n : ℕ) (full : Bool) → Passed mode w rest count full → 1 ≤ length rest
+    → read_segment mode rest ≡ Some (Some n, after) → (MayCome mode full n → ⊥) → AreCut mode w → ⊥
+passed_other Ber w rest after count n full c some r bad cut = bad (λ e. absurd (let x : ◌≡◌ {A = Mode} Ber Cer = e in cc))
+passed_other Cer w rest after count n full c some r bad cut = pieces_other w rest after count n full c some r (λ f l. bad (λ _. (f, l.0, l.1))) cut
+passed_other Der w rest after count n full c some r bad cut = c
+
+pub passed_nested : (mode : Mode) (w rest after : List ℕ) (count : ℕ) (full : Bool) → Passed mode w rest count full → 1 ≤ length rest → mode ≡ Cer
+    → read_segment mode rest ≡ Some (None, after) → AreCut mode w → ⊥
+passed_nested Ber w rest after count full c some e r cut = (let x : ◌≡◌ {A = Mode} Ber Cer = e in cc)
+passed_nested Cer w rest after count full c some e r cut = pieces_nested w rest after count full c some r cut
+passed_nested Der w rest after count full c some e r cut = c
+
+pub passed_few : (mode : Mode) (w rest : List ℕ) (count : ℕ) (full : Bool) → Passed mode w rest count full → length rest ≡ 0 → mode ≡ Cer → count < 2
+    → AreCut mode w → ⊥
+passed_few Ber w rest count full c z e few cut = (let x : ◌≡◌ {A = Mode} Ber Cer = e in cc)
+passed_few Cer w rest count full c z e few cut = pieces_few w rest count full c z few cut
+passed_few Der w rest count full c z e few cut = c
+
+pub passed_cut : (mode : Mode) (w rest : List ℕ) (count : ℕ) (full : Bool) → Passed mode w rest count full → length rest ≡ 0 → (mode ≡ Cer → 2 ≤ count)
+    → AreCut mode w
+passed_cut Ber w rest count full c z two = counts_cut w rest count c z
+passed_cut Cer w rest count full c z two = pieces_cut w rest count full c z (two refl)
+passed_cut Der w rest count full c z two = absurd c
+
+-- ---- the table of segments
 
 within_more : (w : List ℕ) (ss : List Segment) (s : Segment) → AreWithin w ss → s.start + s.len ≤ length w → AreWithin w (ss ++ s ∷ [])
 within_more w [] s h k = (k, tt)
@@ -621,10 +695,8 @@ ordered_more mode w n (r ∷ ss) s h k = (h.0, ordered_more mode w (r.start + r.
 pub record Fills (mode : Mode) (w rest : List ℕ) (table : List Segment) : Type 0 where
   pub values : Trees
   pub encode : AreEncodings mode values w
-  pub shape : AreSegmentsIn mode values
   pub left : Items
   pub items : AreItems mode left rest
-  pub fine : HoldSegments left
   pub front : List ℕ
   pub between : List (List ℕ)
   pub marks : AreMarks mode between
@@ -634,52 +706,21 @@ pub record Fills (mode : Mode) (w rest : List ℕ) (table : List Segment) : Type
   pub ordered : AreInOrder mode w 0 table
   pub reached : length front ≡ end_of 0 table
 
-pub fills_all : (mode : Mode) (w : List ℕ) → AreCut mode w → Fills mode w w []
+pub fills_all : (mode : Mode) (w : List ℕ) → AreWhole mode w → Fills mode w w []
 fills_all mode w h = record {
-  values = h.1.values;
-  encode = h.1.encode;
-  shape = h.1.shape;
-  left = before h.1.values no_items;
-  items = all_items mode h.1.values w h.1.encode;
-  fine = all_hold h.1.values (shape_segments mode h.1.values h.1.shape);
+  values = h.values;
+  encode = h.encode;
+  left = before h.values no_items;
+  items = all_items mode h.values w h.encode;
   front = [];
   between = [];
   marks = tt;
   split = refl;
-  parts = sym (all_parts h.1.values);
+  parts = sym (all_parts h.values);
   within = tt;
   ordered = tt;
   reached = refl;
 }
-
-pub fills_shorter : (mode : Mode) (w rest after : List ℕ) (table : List Segment) (found : Option ℕ) → Fills mode w rest table → 1 ≤ length rest
-    → read_segment mode rest ≡ Some (found, after) → length after + 2 ≤ length rest
-fills_shorter mode w rest after table found c some r = passed_shorter mode c.left rest after found c.items some r
-
--- the segment that is read has room in the octets
-pub fills_room : (mode : Mode) (w rest after : List ℕ) (table : List Segment) (n : ℕ) → Fills mode w rest table → 1 ≤ length rest
-    → read_segment mode rest ≡ Some (Some n, after) → n + length after ≤ length w
-fills_room mode w rest after table n c some r = of_turn (turn mode c.left rest c.items some)
-  where
-    of_turn : Turn mode c.left rest → n + length after ≤ length w
-    of_turn (passes contents header others more e split two k q) =
-        let p = some_pair _ _ _ _ (sym q ∙ r) in
-        let l : length contents ≡ n = number_is _ _ p.0 in
-        let a : length w ≡ length c.front + (length (concat c.between) + length rest) =
-        ap length c.split ∙ length-append c.front (concat c.between ++ rest) ∙ ap (λ z. length c.front + z) (length-append (concat c.between) rest) in
-        let b : length rest ≡ length header + (length contents + length others) =
-        ap length split ∙ length-append header (contents ++ others) ∙ ap (λ z. length header + z) (length-append contents others) in
-        omega (arith, a, b, l, ap length p.1)
-    of_turn (goes header others more e f g split two k q) = absurd (let p = some_pair _ _ _ _ (sym r ∙ q) in not_none _ p.0)
-    of_turn (stops q x) = absurd (none_pair _ _ (sym q ∙ r))
-
-pub fills_none : (mode : Mode) (w rest : List ℕ) (table : List Segment) → Fills mode w rest table → 1 ≤ length rest → read_segment mode rest ≡ None → ⊥
-fills_none mode w rest table c some r = of_turn (turn mode c.left rest c.items some)
-  where
-    of_turn : Turn mode c.left rest → ⊥
-    of_turn (passes contents header others more e split two k q) = none_pair _ _ (sym r ∙ q)
-    of_turn (goes header others more e f g split two k q) = none_pair _ _ (sym r ∙ q)
-    of_turn (stops q x) = x c.fine
 
 pub fills_goes : (mode : Mode) (w rest after : List ℕ) (table : List Segment) → Fills mode w rest table → 1 ≤ length rest
     → read_segment mode rest ≡ Some (None, after) → Fills mode w after table
@@ -695,10 +736,8 @@ fills_goes mode w rest after table c some r = of_turn (turn mode c.left rest c.i
         record {
           values = c.values;
           encode = c.encode;
-          shape = c.shape;
           left = more;
           items = subst (AreItems mode more) p.1 k;
-          fine = f c.fine;
           front = c.front;
           between = c.between ++ header ∷ [];
           marks = marks_more mode c.between header c.marks mark;
@@ -734,10 +773,8 @@ fills_piece mode w rest after table s c some r b = of_turn (turn mode c.left res
         record {
           values = c.values;
           encode = c.encode;
-          shape = c.shape;
           left = more;
           items = subst (AreItems mode more) p.1 k;
-          fine = (let x : IsSegment (primitive octet_string_tag contents) × HoldSegments more = subst HoldSegments e c.fine in x.1);
           front = passed ++ (header ++ contents);
           between = [];
           marks = tt;
@@ -757,9 +794,10 @@ fills_piece mode w rest after table s c some r b = of_turn (turn mode c.left res
     of_turn (goes header others more e f g split two k q) = absurd (let p = some_pair _ _ _ _ (sym r ∙ q) in not_none _ p.0)
     of_turn (stops q x) = absurd (none_pair _ _ (sym q ∙ r))
 
-pub fills_table : (mode : Mode) (w rest : List ℕ) (table : List Segment) → Fills mode w rest table → length rest ≡ 0 → IsTable mode w table
-fills_table mode w rest table c e =
+pub fills_table : (mode : Mode) (w rest : List ℕ) (table : List Segment) → Fills mode w rest table → length rest ≡ 0 → AreCut mode w → IsTable mode w table
+fills_table mode w rest table c e cut =
     let z = none_left mode c.left rest c.items e in
+    let same : cut.1.values ≡ c.values = one_list mode cut.1.values c.values w cut.1.encode c.encode in
     record {
       within = c.within;
       ordered = c.ordered;
@@ -767,7 +805,7 @@ fills_table mode w rest table c e =
           record {
             values = c.values;
             encode = c.encode;
-            shape = c.shape;
+            shape = subst (AreSegmentsIn mode) same cut.1.shape;
             hold =
                 c.parts ∙ ap (λ x. segments_at w table ++ parts_of x) z ∙ append-nil (segments_at w table);
           };

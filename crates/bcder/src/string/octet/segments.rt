@@ -1,7 +1,7 @@
 //! Which octets are segments of an octet string (X.690, 8.7.3, 9.2), and where the segments are.
 //! The headers are read one after the other, however they are nested, without a stack.
-ghost use Rattle.std.specs.Prelude.{◌≡◌, ◌+◌, ◌≤◌, length, IfOk, OnErr, IfSome};
-ghost use Rattle.std.specs.Prelude.{IfNone, MatchOption};
+ghost use Rattle.std.specs.Prelude.{◌≡◌, ◌+◌, ◌≤◌, ◌↔◌, length, true, IfOk, OnErr, IfSome};
+ghost use Rattle.std.specs.Prelude.{IsTrue, MatchOption};
 ghost use Rattle.bcder.specs.steps.Answers.{Answers};
 ghost use Rattle.bcder.specs.calls.Captured.{AreWhole};
 ghost use Rattle.bcder.specs.x690.OctetString.{AreCut};
@@ -119,77 +119,24 @@ fn segment_at(mode: Mode, octets: &[u8]) -> Option<(Option<usize>, &[u8])>
     }
 }
 
-/// Returns the number of primitive segments, if all values are segments in BER (8.7.3.2).
-fn count_nested(octets: &[u8]) -> Option<usize>
-    requires { AreWhole Mode.Ber octets.now }
-    ensures found { IfSome result (λ _. AreCut Mode.Ber octets.now) }
-    ensures none { IfNone result (AreCut Mode.Ber octets.now → ⊥) }
+/// Returns whether a primitive segment of `len` octets may come first, or behind one that was full
+/// or not. In CER each has 1000 octets but the last, which has 1 to 1000 (9.2).
+#[inline(always)]
+fn may_come(mode: Mode, full: bool, len: usize) -> bool
+    ensures { IsTrue result ↔ (mode ≡ Mode.Cer → (full ≡ true) × (1 ≤ len) × (len ≤ 1000)) }
 {
-    let mut rest = octets;
-    let mut count = 0usize;
-    while !rest.is_empty() {
-        match segment_at(Mode::Ber, rest) {
-            Some((Some(_), after)) => {
-                count += 1;
-                rest = after;
-            }
-            Some((None, after)) => rest = after,
-            None => return None,
-        }
+    match mode {
+        Mode::Ber => true,
+        Mode::Cer => full && len != 0 && len <= FULL,
+        Mode::Der => true,
     }
-    Some(count)
-}
-
-/// Returns the number of segments, if they are those of a string in CER: two or more, each
-/// primitive, and of 1000 octets but the last, which has 1 to 1000 (9.2).
-fn count_pieces(octets: &[u8]) -> Option<usize>
-    requires { AreWhole Mode.Cer octets.now }
-    ensures found { IfSome result (λ _. AreCut Mode.Cer octets.now) }
-    ensures none { IfNone result (AreCut Mode.Cer octets.now → ⊥) }
-{
-    let mut rest = octets;
-    let mut count = 0usize;
-    let mut full = true;
-    while !rest.is_empty() {
-        match segment_at(Mode::Cer, rest) {
-            Some((Some(len), after)) => {
-                if !full || len == 0 || len > FULL {
-                    return None;
-                }
-                full = len == FULL;
-                count += 1;
-                rest = after;
-            }
-            Some((None, _)) => return None,
-            None => return None,
-        }
-    }
-    if count < 2 { None } else { Some(count) }
-}
-
-/// Returns the places of the primitive segments, of which there are `count`.
-fn fill(alloc: Global, mode: Mode, octets: &[u8], count: usize) -> Result<Vec<Segment>, NoMemory>
-    requires { AreCut mode octets.now }
-    ensures { IfOk result (λ table. IsTable mode octets.now table.items) }
-{
-    let mut table = Vec::with_capacity(alloc, count)?;
-    let mut rest = octets;
-    while !rest.is_empty() {
-        match segment_at(mode, rest) {
-            Some((Some(len), after)) => {
-                let start = octets.len() - after.len() - len;
-                table.push(Segment { start, len })?;
-                rest = after;
-            }
-            Some((None, after)) => rest = after,
-            None => unreachable!(),
-        }
-    }
-    Ok(table)
 }
 
 /// Returns the table of the segments that these octets are, or `None` if they are no segments of a
-/// constructed string in the mode. It allocates once, and only if they are.
+/// constructed string in the mode.
+///
+/// In BER they may be nested (8.7.3.2). In CER there are two or more, each primitive (9.2). In DER
+/// there are none (10.2). Memory that ran out is reported only if the octets are segments.
 pub(super) fn table_of(
     alloc: Global,
     mode: Mode,
@@ -201,13 +148,43 @@ pub(super) fn table_of(
         (λ table. IsTable mode octets.now table.items)) }
     ensures memory { OnErr result (AreCut mode octets.now) }
 {
-    let count = match mode {
-        Mode::Ber => count_nested(octets),
-        Mode::Cer => count_pieces(octets),
-        Mode::Der => None,
-    };
-    match count {
-        Some(count) => Ok(Some(fill(alloc, mode, octets, count)?)),
-        None => Ok(None),
+    if mode.is_der() {
+        return Ok(None);
+    }
+    let mut table = Vec::new(alloc);
+    let mut complete = true;
+    let mut count = 0usize;
+    let mut full = true;
+    let mut rest = octets;
+    while !rest.is_empty() {
+        match segment_at(mode, rest) {
+            Some((Some(len), after)) => {
+                if !may_come(mode, full, len) {
+                    return Ok(None);
+                }
+                let start = octets.len() - after.len() - len;
+                if table.push(Segment { start, len }).is_err() {
+                    complete = false;
+                }
+                full = len == FULL;
+                count += 1;
+                rest = after;
+            }
+            Some((None, after)) => {
+                if mode.is_cer() {
+                    return Ok(None);
+                }
+                rest = after;
+            }
+            None => return Ok(None),
+        }
+    }
+    if mode.is_cer() && count < 2 {
+        return Ok(None);
+    }
+    if complete {
+        Ok(Some(table))
+    } else {
+        Err(NoMemory)
     }
 }
