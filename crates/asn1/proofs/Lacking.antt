@@ -1,15 +1,16 @@
 -- Readers for which memory may run out, or not.
-use Rattle.std.proofs.Common.{◌≡◌, Bool, true, false, ◌||◌, Option, refl, sym, ◌∙◌}
+use Rattle.std.proofs.Common.{◌≡◌, Bool, true, false, ◌||◌, Option, refl}
 use Rattle.std.specs.Prelude.{Result, Ok, Err, IfErr}
 use Rattle.bcder.specs.declared.decode.error.DecodeError.{DecodeError}
 use Rattle.bcder.specs.x690.Identifier.{Tag}
 use Rattle.bcder.specs.x690.Tree.{Tree, Trees}
 use Rattle.bcder.specs.calls.Calls.{RefusesEnd, left_failed, source_failed, left_open}
 use Rattle.bcder.specs.calls.Cause.{cause_of, of_memory}
-use Rattle.bcder.specs.calls.Content.{Reading, Asked, RefusesHeader}
-use Rattle.bcder.specs.calls.Content as content
+use Rattle.bcder.specs.calls.Content.{Reading, Asked, NothingThere}
 use Rattle.asn1.specs.Memory.{refusal_is_not, source_is_not}
 use Rattle.asn1.specs.Types.{RefusesFields, RefusesTyped, TakesNextTyped}
+use Rattle.bcder.specs.calls.Refusals.{Refuses}
+use Rattle.bcder.specs.calls.Refusals as refusals
 use Rattle.asn1.specs.Types as types
 
 -- ---- of two
@@ -25,10 +26,11 @@ second_lacks false m h = h
 -- ---- errors that are not out of memory
 
 module _ {X : Type 0} (e : DecodeError X) (s : cause_of e ≡ of_memory) where
-  pub header_is_not : {asked : Asked} {c d : Reading} → RefusesHeader cause_of asked c e d → ⊥
-  header_is_not (content.RefusesHeader.failed q a) = refusal_is_not e s a
-  header_is_not (content.RefusesHeader.source f g) = source_is_not e s f
-  header_is_not (content.RefusesHeader.nothing n a) = (let x = sym a.named ∙ s in cc)
+  pub header_is_not : {asked : Asked} {c d : Reading} → Refuses cause_of asked (NothingThere asked) (λ _. ⊥) c e d → ⊥
+  header_is_not (refusals.Refuses.failed q a) = refusal_is_not e s a
+  header_is_not (refusals.Refuses.source f g) = source_is_not e s f
+  header_is_not (refusals.Refuses.nothing n a) = refusal_is_not e s a.refused
+  header_is_not (refusals.Refuses.memory k n) = absurd n
 
   pub end_is_not : {c d : Reading} → RefusesEnd cause_of c e d → ⊥
   end_is_not (left_failed q a) = refusal_is_not e s a

@@ -135,7 +135,8 @@ module _ (n : GName) (c d e : Reading) (s : d.stream ≡ e.stream) (o : d.owed �
   pub passed_behind : {T E : Type 0} (why : E → Cause ContentError) (r : Result (Option T) E) → PassedBy (Refuses why any HasNoNext (λ _. ⊥)) c r d
       → PassedBy (Refuses why any HasNoNext (λ _. ⊥)) (named n c) r e
   passed_behind why r p =
-      subst (λ z. PassedBy (Refuses why any HasNoNext (λ _. ⊥)) (named n c) r z) is_named (passed_named n why c d (Refuses why any HasNoNext (λ _. ⊥)) (refused_named n why c d) r p)
+      subst (λ z. PassedBy (Refuses why any HasNoNext (λ _. ⊥)) (named n c) r z) is_named
+      (passed_named n why c d (Refuses why any HasNoNext (λ _. ⊥)) (refused_named n why c d) r p)
 
   pub skipped_behind : {T E : Type 0} (why : E → Cause ContentError) (r : Result (Option T) E) → PassedBy (RefusesOne why) c r d
       → PassedBy (RefusesOne why) (named n c) r e

@@ -21,8 +21,8 @@ use Rattle.bcder.specs.calls.Refusals.{Refuses, failed, source, nothing, memory}
 use Rattle.bcder.specs.calls.CapturingValues.{CapturesBy, PassesBy, LeadDeep, BeginsDeep}
 use Rattle.bcder.specs.calls.CapturingValues.{HasValueOrDeep, of_value, of_depth, HasValuesOrDeep, MetDeep, CapturesValue}
 use Rattle.bcder.specs.calls.CapturingValues.{CapturesNext, CapturesValues, HasOthers, PassesToEnd}
-use Rattle.bcder.specs.calls.Content.{Reading, ContentForm, octets, values, Octets, IndefiniteValues, label, Closes, Moves, Whole, Falls}
-use Rattle.bcder.specs.calls.Content.{HasMarker, EndsAt, NotAtEnd, IsDone, IsUsedUp, any, RefusesHeader}
+use Rattle.bcder.specs.calls.Content.{NothingThere, Reading, ContentForm, octets, values, Octets, IndefiniteValues, label, Closes, Moves, Whole, Falls}
+use Rattle.bcder.specs.calls.Content.{HasMarker, EndsAt, NotAtEnd, IsDone, IsUsedUp, any}
 use Rattle.bcder.specs.calls.Calls.{Answered}
 use Rattle.bcder.specs.calls.Decoding.{by_closure, left_failed}
 use Rattle.bcder.specs.calls.Walking.{HasNoNext, HasNoValue, HasValue, PassesValue, ClosesBefore, HasValues, Walks}
@@ -256,7 +256,7 @@ next_ended c d n m = record {
 
 -- no header comes next
 pub next_stopped : {S X : Type 0} (why : S → Cause ContentError) (s : S) (e : DecodeError X) (c d : Reading) → Within c → cause_of e ≡ why s
-    → RefusesHeader why any c s d → d.state ≡ Failed → d.mode ≡ c.mode → d.marked ≡ c.marked → CapturesNext {X = X} c (Err e) d
+    → Refuses why any (NothingThere any) (λ _. ⊥) c s d → d.state ≡ Failed → d.mode ≡ c.mode → d.marked ≡ c.marked → CapturesNext {X = X} c (Err e) d
 next_stopped why s e c d w k h f m a = record {
   captured = tt;
   end = tt;

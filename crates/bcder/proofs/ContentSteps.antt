@@ -15,7 +15,7 @@ use Rattle.bcder.specs.declared.decode.stop.Stop.TheVariants as stop
 use Rattle.bcder.specs.x690.Identifier.{Tag, AreOctets}
 use Rattle.bcder.specs.x690.Encoding.{Header}
 use Rattle.bcder.specs.calls.Stream.{Stream, IsSound, Grew, past, limited}
-use Rattle.bcder.specs.calls.Content.{Reading, ContentForm, octets, Octets, any, Enters, RefusesHeader, Moves, Advances, FitsOwed, IsDone}
+use Rattle.bcder.specs.calls.Content.{NothingThere, Reading, ContentForm, octets, Octets, any, Enters, Moves, Advances, FitsOwed, IsDone}
 use Rattle.bcder.specs.calls.Calls.{IsFormOf, Answered, AnswersDone, RefusesContent, by_closure, RanOver, TakesContent, RefusesValue, popped}
 use Rattle.bcder.specs.steps.WalkSteps.{WalksBy, itself, walked}
 use Rattle.bcder.specs.calls.Walking as walking
@@ -86,7 +86,7 @@ pub step_refused : {T E : Type 0} (why : E → Cause ContentError) (c d : Readin
     → Refuses why any HasNoNext (λ _. ⊥) c e d
 step_refused {T} {E} why c d e w h = (let r : Result T E = Err e in refuses_walk why itself (walked {T = T} why) (λ t p r q x. x) c d r w h)
 
-pub next_refused : {E : Type 0} (why : E → Cause ContentError) (c d : Reading) (e : E) → Within c → RefusesHeader why any c e d
+pub next_refused : {E : Type 0} (why : E → Cause ContentError) (c d : Reading) (e : E) → Within c → Refuses why any (NothingThere any) (λ _. ⊥) c e d
     → Refuses why any HasNoNext (λ _. ⊥) c e d
 next_refused why c d e w h = step_refused {T = ℕ} why c d e w (value_refused why itself (walked {T = ℕ} why) any c e d h)
 

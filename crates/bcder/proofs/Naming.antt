@@ -11,6 +11,8 @@ use Rattle.bcder.specs.calls.Violations.{ViolatesFront}
 use Rattle.bcder.specs.calls.Content.{Reading, Asked, any, HasHeader, HasMarker, IsAtEnd, of_octets, of_definite, of_indefinite}
 use Rattle.bcder.specs.calls.Content.{of_unbounded, EndsBefore, NothingThere, Falls, FitsOwed, Resembles, HasLongValue, Violates}
 use Rattle.bcder.specs.calls.Content.{NamesViolation, NamesFront, in_front, truncated_contents, value_too_long, stray_end}
+use Rattle.bcder.specs.calls.Refusals.{Refuses}
+use Rattle.bcder.specs.calls.Refusals as refusals
 use Rattle.bcder.specs.laws.Stands.{Headed}
 
 pub of_violation : (c : Reading) (why : Cause ContentError) → NamesViolation why c → IsOfContent why
@@ -19,6 +21,11 @@ of_violation c why n = subst IsOfContent (sym n.named) tt
 -- a header that was refused is what comes next; and if an asked one comes next, any text will do
 pub names_front : (asked : Asked) (c : Reading) (why : Cause ContentError) → NamesViolation why c → NamesFront asked why c
 names_front asked c why n = record { refused = of_violation c why n; named = λ _. n }
+
+-- no asked value comes next, nor a reason to answer that there is none
+pub nothing_violated : {E : Type 0} (why : E → Cause ContentError) (asked : Asked) (c d : Reading) (e : E) → NothingThere asked c → NamesViolation (why e) c
+    → Refuses why asked (NothingThere asked) (λ _. ⊥) c e d
+nothing_violated why asked c d e n o = refusals.Refuses.nothing n (names_front asked c (why e) o)
 
 pub behind_header : (asked : Asked) (c : Reading) (why : Cause ContentError) → IsOfContent why → (after : List ℕ) → HasHeader asked c after
     → NamesFront asked why c

@@ -180,7 +180,8 @@ module _ (c d e : Reading) (k : Header) (s t : Stream) (o p : Option ℕ) (withi
     refused_by (by_source calls called b j z) = skipping.RefusesSkip.by_content (heading k 0 ∷ calls) called (broken_calls calls b) (refusals.Refuses.source
         (hs j) (subst (λ n. Grew n e.stream.faults) (ap (λ q. q.faults) (sym ds) ∙ nf) (subst (λ n. Grew s.faults n) (ap (λ q. q.faults) (sym es)) z)))
     refused_by (by_content calls called b n j) = skipping.RefusesSkip.by_content (heading k 0 ∷ calls) called (broken_calls calls b)
-        (refusals.Refuses.nothing (no_next c x.usable (nothing_there n) not_at_end) (behind_header any c (why y) (hc j) d.stream.rest (header_entered c k d any refl x)))
+        (refusals.Refuses.nothing (no_next c x.usable (nothing_there n) not_at_end)
+        (behind_header any c (why y) (hc j) d.stream.rest (header_entered c k d any refl x)))
     refused_by (by_closure calls before last q z is called r b j) =
         skipping.RefusesSkip.by_closure before last q z called r (same_calls c e (heading k 0 ∷ calls) (before ++ last ∷ []) is (broken_calls calls b)) (hx z j)
     refused_by (by_memory calls before last is called a l b j) = skipping.RefusesSkip.by_memory before last (subst (λ z. Called step f z g) is called)

@@ -2,7 +2,7 @@
 use Rattle.std.proofs.Common.{◌≡◌, ◌∙◌, subst, sym}
 use Rattle.bcder.specs.declared.decode.error.ContentError.{ContentError}
 use Rattle.bcder.specs.calls.Cause.{Cause, IsOfContent}
-use Rattle.bcder.specs.calls.Content.{any, Reading, Asked}
+use Rattle.bcder.specs.calls.Content.{NothingThere, any, Reading, Asked}
 use Rattle.bcder.specs.calls.Content as content
 use Rattle.bcder.specs.calls.Calls as calls
 use Rattle.bcder.specs.calls.Refusals as refusals
@@ -16,10 +16,12 @@ module _ {E F : Type 0} (stopped : E → Cause ContentError) (why : F → Cause 
   named : content.NamesViolation (stopped s) c → content.NamesViolation (why e) c
   named o = record { violation = o.violation; violates = o.violates; named = same ∙ o.named }
 
-  pub header_stopped : (asked : Asked) → content.RefusesHeader stopped asked c s d → content.RefusesHeader why asked c e d
-  header_stopped asked (content.RefusesHeader.failed x o) = content.RefusesHeader.failed x (own o)
-  header_stopped asked (content.RefusesHeader.source k x) = content.RefusesHeader.source (same ∙ k) x
-  header_stopped asked (content.RefusesHeader.nothing x o) = content.RefusesHeader.nothing x (named o)
+  pub header_stopped : (asked : Asked) → Refuses stopped asked (NothingThere asked) (λ _. ⊥) c s d → Refuses why asked (NothingThere asked) (λ _. ⊥) c e d
+  header_stopped asked (refusals.Refuses.failed x o) = refusals.Refuses.failed x (own o)
+  header_stopped asked (refusals.Refuses.source k x) = refusals.Refuses.source (same ∙ k) x
+  header_stopped asked (refusals.Refuses.nothing x o) =
+      refusals.Refuses.nothing x (record { refused = own o.refused; named = λ q. named (o.named q) })
+  header_stopped asked (refusals.Refuses.memory k n) = absurd n
 
   pub end_stopped : calls.RefusesEnd stopped c s d → calls.RefusesEnd why c e d
   end_stopped (calls.RefusesEnd.left_failed x o) = calls.RefusesEnd.left_failed x (own o)

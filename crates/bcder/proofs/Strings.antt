@@ -194,7 +194,9 @@ module _ {X : Type 0} (Means : Mode → Tree → StringOctets → Type 0) (in_on
       wanted (valued.WantsMemoryFor.of_value t w rest x h m) = valued.WantsMemoryFor.of_value t w rest (whole x) h m
       wanted (valued.WantsMemoryFor.of_header der a h g) = valued.WantsMemoryFor.of_header der a h g
 
-      of_piece : Refuses cause_of (tagged tag) (HasNoTree {T = List ℕ} tag (λ t w. Means c.mode t (whole w))) (WantsMemoryFor {T = List ℕ} tag (λ t w. Means c.mode t (whole w))) c e d → Refuses cause_of (tagged tag) (HasNoTree tag (Means c.mode)) (WantsMemoryFor tag (Means c.mode)) c e d
+      of_piece : Refuses cause_of (tagged tag) (HasNoTree {T = List ℕ} tag (λ t w. Means c.mode t (whole w)))
+          (WantsMemoryFor {T = List ℕ} tag (λ t w. Means c.mode t (whole w))) c e d
+          → Refuses cause_of (tagged tag) (HasNoTree tag (Means c.mode)) (WantsMemoryFor tag (Means c.mode)) c e d
       of_piece (refusals.Refuses.failed s i) = refusals.Refuses.failed s i
       of_piece (refusals.Refuses.source s g) = refusals.Refuses.source s g
       of_piece (refusals.Refuses.memory s h) = refusals.Refuses.memory s (wanted h)

@@ -19,7 +19,6 @@ use Rattle.bcder.specs.calls.Views.{of_constructed, of_primitive}
 use Rattle.bcder.specs.calls.Cause.{cause_of}
 use Rattle.bcder.specs.calls.Content.{Reading, ContentForm, Octets, DefiniteValues, IndefiniteValues, any, tagged, label}
 use Rattle.bcder.specs.calls.Content.{HasHeader, IsAbsent, IsElsewhere, none_left, other, marker, of_octets}
-use Rattle.bcder.specs.calls.Content as content
 use Rattle.bcder.specs.calls.Calls.{Hands, IsFormOf, ContentOf, Answered, TakesValue, RefusesFront, RefusesContent, by_closure}
 use Rattle.bcder.specs.calls.Calls.{unfinished, RefusesEnd, left_failed, source_failed, left_open, HasForm, Untagged}
 use Rattle.bcder.specs.calls.Takes.{HasNone, TakesNext, Takes, RefusesTake, by_header, by_form, by_content}
@@ -36,7 +35,8 @@ use Rattle.bcder.proofs.SameBorrow.{within_constructed}
 use Rattle.bcder.proofs.Headers.{Shape, is_primitive, is_definite, is_indefinite, front_of_header, no_header_empty, header_no_marker, no_other_front}
 use Rattle.bcder.proofs.Entering.{Within, no_fewer}
 use Rattle.bcder.proofs.WalkSteps.{owed_after, shape_in, short_front, grew_between}
-use Rattle.bcder.proofs.Naming.{names_front, behind_header}
+use Rattle.bcder.specs.calls.Refusals as refusals
+use Rattle.bcder.proofs.Naming.{behind_header}
 
 -- a header of the tag, as one of any
 abbrev any_of : (tag : Tag) (c : Reading) (after : List ℕ) → HasHeader (tagged tag) c after → HasHeader any c after
@@ -242,11 +242,12 @@ module _ {C T X : Type 0} (view : C → Reading) (post : Tag → MutBor C → Re
 
   refused_as : (c d : Reading) → Within c → (e : DecodeError X) → RefusesTake view post (Some true) (tagged tag) c e d
       → RefusesAs tag (MeansIn c.mode) (RefusesIn c.mode) c e d
-  refused_as c d w e (by_header (content.RefusesHeader.failed s a) m) = typed.RefusesAs.failed s a
-  refused_as c d w e (by_header (content.RefusesHeader.source s g) m) = typed.RefusesAs.source s g
-  refused_as c d w e (by_header (content.RefusesHeader.nothing n a) m) = typed.RefusesAs.broken
+  refused_as c d w e (by_header (refusals.Refuses.failed s a) m) = typed.RefusesAs.failed s a
+  refused_as c d w e (by_header (refusals.Refuses.source s g) m) = typed.RefusesAs.source s g
+  refused_as c d w e (by_header (refusals.Refuses.memory k n) m) = absurd n
+  refused_as c d w e (by_header (refusals.Refuses.nothing n a) m) = typed.RefusesAs.broken
       (record { usable = n.usable; value = λ contents u rest h. (let x = primitive_header tag c w contents u rest h in n.header x.0 x.1); absent = n.absent })
-      (names_front (tagged tag) c (cause_of e) a)
+      a
   refused_as c d w e (by_form f a m) = typed.RefusesAs.broken (record {
     usable = f.usable;
     value = no_other_form tag c f;

@@ -19,9 +19,8 @@ use Rattle.bcder.specs.x690.OctetString.{AreSegmentsIn}
 use Rattle.bcder.specs.calls.Readers.{HasAll}
 use Rattle.bcder.specs.x690.Encoding.{may_have, IsHeader, IsDefinite, IsFramed, IsEncoding, AreEncodings}
 use Rattle.bcder.specs.calls.Cause.{cause_of}
-use Rattle.bcder.specs.calls.Content.{Reading, ContentForm, octets, values, Octets, DefiniteValues, IndefiniteValues}
-use Rattle.bcder.specs.calls.Content.{tagged, label, HasHeader, HasMarker, IsDone, RefusesHeader}
-use Rattle.bcder.specs.calls.Content as content
+use Rattle.bcder.specs.calls.Content.{NothingThere, Reading, ContentForm, octets, values, Octets, DefiniteValues, IndefiniteValues}
+use Rattle.bcder.specs.calls.Content.{tagged, label, HasHeader, HasMarker, IsDone}
 use Rattle.bcder.specs.calls.Calls.{Hands, IsFormOf, ContentOf, Answered, TakesValue, RefusesFront, RefusesContent}
 use Rattle.bcder.specs.calls.Calls.{by_closure, unfinished, RefusesEnd, left_failed, source_failed, left_open}
 use Rattle.bcder.specs.calls.Takes.{HasNone, TakesNext, RefusesTake, by_header, by_form, by_content}
@@ -36,7 +35,7 @@ use Rattle.bcder.proofs.WalkSteps.{owed_after, done_here, grew_between}
 use Rattle.bcder.proofs.Typed.{header_not_absent, or_false, handed_value, handed_before}
 use Rattle.bcder.specs.calls.Refusals as refusals
 use Rattle.bcder.specs.calls.Refusals.{Refuses}
-use Rattle.bcder.proofs.Naming.{names_front, behind_header}
+use Rattle.bcder.proofs.Naming.{behind_header}
 
 -- ---- content is that of one value at most
 
@@ -209,21 +208,24 @@ none_in_der ts s = s
 
 -- no header was passed
 refused_header : {T X : Type 0} (tag : Tag) (Means : Tree → T → Type 0) (c d : Reading) → Within c → (e : DecodeError X)
-    → RefusesHeader cause_of (tagged tag) c e d → Refuses cause_of (tagged tag) (HasNoTree tag Means) (WantsMemoryFor tag Means) c e d
-refused_header tag Means c d w e (content.RefusesHeader.failed s a) = refusals.Refuses.failed s a
-refused_header tag Means c d w e (content.RefusesHeader.source s g) = refusals.Refuses.source s g
-refused_header tag Means c d w e (content.RefusesHeader.nothing n a) = refusals.Refuses.nothing (record {
+    → Refuses cause_of (tagged tag) (NothingThere (tagged tag)) (λ _. ⊥) c e d
+    → Refuses cause_of (tagged tag) (HasNoTree tag Means) (WantsMemoryFor tag Means) c e d
+refused_header tag Means c d w e (refusals.Refuses.failed s a) = refusals.Refuses.failed s a
+refused_header tag Means c d w e (refusals.Refuses.source s g) = refusals.Refuses.source s g
+refused_header tag Means c d w e (refusals.Refuses.memory k n) = absurd n
+refused_header tag Means c d w e (refusals.Refuses.nothing n a) = refusals.Refuses.nothing (record {
   usable = n.usable;
   value = λ t v rest x h k. (let y = tagged_header c w tag t v rest h in n.header y.0 y.1);
   absent = n.absent;
-}) (names_front (tagged tag) c (cause_of e) a)
+}) a
 
 -- what the calls say where none was
 module _ {T X : Type 0} (tag : Tag) (Means : Tree → T → Type 0) (c d : Reading) where
   pub no_tree : d.mode ≡ c.mode → HasNone (tagged tag) c d → TakesNextTree tag Means {X = X} c (Ok None) d
   no_tree m h = record { value = tt; none = h; no_fault = h.no_fault; refused = tt; failed = tt; mode = m; marked = h.marked }
 
-  pub stopped_tree : Within c → d.mode ≡ c.mode → (e : DecodeError X) → RefusesHeader cause_of (tagged tag) c e d → d.marked ≡ c.marked → d.state ≡ Failed
+  pub stopped_tree : Within c → d.mode ≡ c.mode → (e : DecodeError X) → Refuses cause_of (tagged tag) (NothingThere (tagged tag)) (λ _. ⊥) c e d
+      → d.marked ≡ c.marked → d.state ≡ Failed
       → TakesNextTree tag Means c (Err e) d
   stopped_tree w m e h k f = record { value = tt; none = tt; no_fault = tt; refused = refused_header tag Means c d w e h; failed = f; mode = m; marked = k }
 

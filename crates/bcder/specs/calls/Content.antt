@@ -13,12 +13,12 @@ use Rattle.bcder.specs.x690.Identifier.{Tag, IsTag, identifier, end_of_contents}
 use Rattle.bcder.specs.x690.Length.{IsEndOfContents}
 use Rattle.bcder.specs.x690.Tree.{Trees}
 use Rattle.bcder.specs.x690.Encoding.{IsHeader, AreEncodings, Header}
-use Rattle.bcder.specs.calls.Stream.{Stream, Grew}
+use Rattle.bcder.specs.calls.Stream.{Stream}
 use Rattle.bcder.specs.declared.decode.error.ContentError.{ContentError}
 use Rattle.bcder.specs.declared.decode.error.ContentError.TheVariants.{Static}
 use Rattle.bcder.specs.declared.decode.violation.Violation.{Violation}
 use Rattle.bcder.specs.declared.decode.violation.Violation.TheVariants as v
-use Rattle.bcder.specs.calls.Cause.{Cause, of_source, of_content, IsOfContent}
+use Rattle.bcder.specs.calls.Cause.{Cause, of_content, IsOfContent}
 use Rattle.bcder.specs.calls.Violations.{violation_text, ViolatesFront}
 
 -- the form of content: octets, or values whose end is known in one of three ways
@@ -285,9 +285,3 @@ pub record NamesViolation (why : Cause ContentError) (c : Reading) : Type 0 wher
 pub record NamesFront (asked : Asked) (why : Cause ContentError) (c : Reading) : Type 0 where
   pub refused : IsOfContent why
   pub named : NothingThere asked c → NamesViolation why c
-
--- why no header was passed, with error e; `why` gives its cause
-pub data RefusesHeader {E : Type 0} (why : E → Cause ContentError) (asked : Asked) (c : Reading) (e : E) (d : Reading) : Type 0 where
-  failed : c.state ≡ Failed → IsOfContent (why e) → RefusesHeader why asked c e d
-  source : why e ≡ of_source → Grew c.stream.faults d.stream.faults → RefusesHeader why asked c e d
-  nothing : NothingThere asked c → NamesViolation (why e) c → RefusesHeader why asked c e d

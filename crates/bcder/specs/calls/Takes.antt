@@ -11,8 +11,9 @@ use Rattle.bcder.specs.declared.decode.error.DecodeError.{DecodeError}
 use Rattle.bcder.specs.calls.Cause.{cause_of, IsRefusal, NamesTag}
 use Rattle.bcder.specs.x690.Identifier.{Tag}
 use Rattle.bcder.specs.calls.Stream.{Stream}
-use Rattle.bcder.specs.calls.Content.{Reading, Asked, any, tagged, IsMissing, RefusesHeader}
+use Rattle.bcder.specs.calls.Content.{Reading, Asked, any, tagged, IsMissing, NothingThere}
 use Rattle.bcder.specs.calls.Calls.{IsInside, MayBeCalled, IsLawfulAtAny, TakesValue, RefusesFront, HasForm}
+use Rattle.bcder.specs.calls.Refusals.{Refuses}
 use Rattle.bcder.specs.calls.Views.{of_constructed, of_primitive, of_content, before, after}
 
 -- no asked value is there, which content shows without a fault of the source
@@ -35,7 +36,7 @@ module _ {C T X : Type 0} (view : C → Reading) (post : Tag → MutBor C → Re
     (form : Option Bool) (asked : Asked) where
   -- why no value was taken from c, with error e: no asked header was passed, the value has the refused form, or its content was refused
   pub data RefusesTake (c : Reading) (e : DecodeError X) (d : Reading) : Type 0 where
-    by_header : RefusesHeader cause_of asked c e d → d.marked ≡ c.marked → RefusesTake c e d
+    by_header : Refuses cause_of asked (NothingThere asked) (λ _. ⊥) c e d → d.marked ≡ c.marked → RefusesTake c e d
     by_form : HasRefusedForm form asked c → IsRefusal e → d.marked ≡ c.marked → RefusesTake c e d
     by_content : RefusesFront cause_of view post asked c e d → RefusesTake c e d
 

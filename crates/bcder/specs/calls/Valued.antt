@@ -126,7 +126,8 @@ module _ {T : Type 0} (tag : Tag) (Means : Tree → T → Type 0) where
     pub record TakesOneTree (c : Reading) (r : Result T (DecodeError X)) (d : Reading) : Type 0 where
       pub value : IfOk r (λ x. TakesTree c x d)
       pub no_fault : OnOk r (d.stream.faults ≡ c.stream.faults)
-      pub refused : IfErr r (λ e. HasNone (tagged tag) c d × NamesTag tag e ⊎ (d.state ≡ Failed) × Refuses cause_of (tagged tag) HasNoTree WantsMemoryFor c e d)
+      pub refused : IfErr r (λ e. HasNone (tagged tag) c d × NamesTag tag e
+          ⊎ (d.state ≡ Failed) × Refuses cause_of (tagged tag) HasNoTree WantsMemoryFor c e d)
       pub mode : d.mode ≡ c.mode
       pub marked : d.marked ≡ c.marked
 

@@ -16,8 +16,8 @@ use Rattle.bcder.specs.declared.decode.error.DecodeError.{DecodeError}
 use Rattle.bcder.specs.declared.decode.content.Constructed.{Constructed}
 use Rattle.bcder.specs.calls.Views.{of_constructed}
 use Rattle.bcder.specs.calls.Content.{Reading, ContentForm, octets, values, Octets, Moves, HasMarker, EndsAt}
-use Rattle.bcder.specs.calls.Refusals.{Refuses}
 use Rattle.bcder.specs.calls.Content.{NotAtEnd, IsDone, any, NothingThere, Resembles, NamesFront}
+use Rattle.bcder.specs.calls.Refusals.{Refuses}
 
 -- ---- one value
 
@@ -46,7 +46,7 @@ pub record PassesValue (c d : Reading) : Type 0 where
   pub stays : d.state ≡ Open
 
 -- a call passed over the next value, or found the end, or refused
-pub record PassedBy {T E : Type 0} (Refuses : Reading → E → Reading → Type 0) (c : Reading) (r : Result (Option T) E)
+pub record PassedBy {T E : Type 0} (IsRefused : Reading → E → Reading → Type 0) (c : Reading) (r : Result (Option T) E)
     (d : Reading) : Type 0 where
   -- Some: the one value that comes next was passed
   pub value : IfOk r (λ o. IfSome o (λ _. PassesValue c d))
@@ -56,7 +56,7 @@ pub record PassedBy {T E : Type 0} (Refuses : Reading → E → Reading → Type
   -- on Ok, the source met no fault
   pub no_fault : OnOk r (d.stream.faults ≡ c.stream.faults)
   -- an error says why no value was passed, and content has failed
-  pub refused : IfErr r (λ e. Refuses c e d)
+  pub refused : IfErr r (λ e. IsRefused c e d)
   pub failed : OnErr r (d.state ≡ Failed)
   -- the mode and the mark stay
   pub mode : d.mode ≡ c.mode
@@ -97,14 +97,14 @@ pub data RefusesValues {E : Type 0} (why : E → Cause ContentError) (c : Readin
   short : c.kind ≡ Octets → IsShort c → IsOfContent (why e) → RefusesValues why c e d
 
 -- content was passed to its end, or refused
-pub record AllBy {T E : Type 0} (Refuses : Reading → E → Reading → Type 0) (c : Reading) (r : Result T E) (d : Reading) : Type 0 where
+pub record AllBy {T E : Type 0} (IsRefused : Reading → E → Reading → Type 0) (c : Reading) (r : Result T E) (d : Reading) : Type 0 where
   -- there were values up to the end, and content is at it
   pub all : OnOk r (c.state ≡ Open → HasValues c)
   pub done : OnOk r (IsDone d)
   -- on Ok, the source met no fault
   pub no_fault : OnOk r (d.stream.faults ≡ c.stream.faults)
   -- an error says why not, and content has failed
-  pub refused : IfErr r (λ e. Refuses c e d)
+  pub refused : IfErr r (λ e. IsRefused c e d)
   pub failed : OnErr r (d.state ≡ Failed)
   -- the mode and the mark stay
   pub mode : d.mode ≡ c.mode

@@ -68,7 +68,8 @@ module _ {S : Type 0} (stream : S → Stream) (c : Both (MutBor (Constructed S))
 
   -- what a call that passes over the next value did, with a stop in place of an error
   abbrev pub PassedStep : {T X : Type 0} → Result (Option T) (Stop X) → Type 0
-  PassedStep r = PassedBy (Refuses stop_cause any HasNoNext (λ _. ⊥)) (of_constructed stream c.entry.now) r (of_constructed stream c.exit.now)
+  PassedStep r = PassedBy (Refuses stop_cause any HasNoNext (λ _. ⊥)) (of_constructed stream c.entry.now) r
+      (of_constructed stream c.exit.now)
 
   abbrev pub PassedOver : ℕ → Type 0
   PassedOver n = Between stream c (λ c d. PassesOver c n d)

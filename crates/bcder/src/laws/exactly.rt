@@ -1,7 +1,7 @@
 //! Exactly when a value is passed, skipped or captured. A call says what came next if it returns
 //! `Some`, `None` or an error. It follows that it returns `Some` whenever the encoding of a value
-//! comes next, and `None` whenever the end does, over every lawful source and in each mode. Each law
-//! is the contract of a function without a body.
+//! comes next, and `None` whenever the end does, over every lawful source and in each mode. Each
+//! law is the contract of a function without a body.
 ghost use Rattle.bcder.specs.laws.Exactly.{WalksExactly, PassesOneExactly, PassesAllExactly};
 ghost use Rattle.bcder.specs.laws.Exactly.{SkipsExactly, SkipsOneExactly};
 ghost use Rattle.bcder.specs.laws.Exactly.{CapturesOneExactly, CapturesNextExactly};
@@ -24,9 +24,10 @@ pub fn all_values_are_passed<S: Source, E>()
     ensures { PassesAllExactly S.stream E }
 {}
 
-/// Unless the source fails, a value is skipped by `Constructed::skip_opt` and `skip` if its encoding
-/// comes next, the closure returns `Ok` at each of its headings, and memory doesn't run out, which
-/// it can only for values at a depth of four or more. `skip_opt` returns `None` at the end.
+/// Unless the source fails, a value is skipped by `Constructed::skip_opt` and `skip` if its
+/// encoding comes next, the closure returns `Ok` at each of its headings, and memory doesn't run
+/// out, which it can only for values at a depth of four or more. `skip_opt` returns `None` at the
+/// end.
 pub fn a_value_is_skipped<S: Source, F, E>()
 where
     F: FnMut(Tag, bool, usize) -> Result<(), ContentError>,

@@ -2,13 +2,13 @@ use Rattle.std.proofs.Common.{◌≡◌, ◌∙◌, refl, sym, rules}
 use Rattle.std.specs.Prelude.{Some}
 use Rattle.bcder.specs.declared.decode.content.Kind.TheVariants as kind
 use Rattle.bcder.specs.declared.decode.violation.Violation.TheVariants as violation
-use Rattle.bcder.specs.calls.Content.{Resembles, UnboundedValues, nothing, in_front, truncated_contents}
+use Rattle.bcder.specs.calls.Content.{Resembles, UnboundedValues, in_front, truncated_contents}
 use Rattle.bcder.specs.steps.Peek.{header_of}
 use Rattle.bcder.specs.calls.Views.{of_constructed}
 use Rattle.bcder.specs.laws.Moved.{moved_twice_is_moved}
 use Rattle.bcder.proofs.Entering.{looked_moves, looked_failed, looked_enters, looked_front, header_nothing, other_missing}
 use Rattle.bcder.proofs.Entering.{marker_missing, end_nothing, none_nothing, unread_nothing, no_fewer, grew_least, kind_of}
-use Rattle.bcder.proofs.Naming.{looked_alike, front_alike, named_alike}
+use Rattle.bcder.proofs.Naming.{nothing_violated, looked_alike, front_alike, named_alike}
 use Rattle.bcder.proofs.SameBorrow.{within_constructed, constructed_form, with_source, resembles_with_source}
 use Rattle.bcder.proofs.decode.content.Constructed.next_header.Given.{Over}
 use Rattle.bcder.proofs.decode.content.Constructed.next_header.Goals as goal
@@ -44,7 +44,7 @@ returns-in-Err-enter-clause-refused g c =
     let s = looked g (goal.at.returns-in-Err-enter-clause-refused g c).After-peek in
     let p = rw c.in-Ok-Front.field-0-is at c.in-Ok-Front.ensures.peeked in
     let h = c.in-Err-enter.ensures.refused in
-    nothing (header_nothing _ _ s c.in-Open.is c.args.wanted (within_constructed g.S.Source.stream g.met.S.Source.sound c.args.self.now)
+    nothing_violated _ _ _ _ _ (header_nothing _ _ s c.in-Open.is c.args.wanted (within_constructed g.S.Source.stream g.met.S.Source.sound c.args.self.now)
     (constructed_form g.S.Source.stream c.args.self.now) (looked_front _ _ s (no_fewer _ _ c.in-Ok-Front.ensures.no_fault) h.1)
     (header_of c.in-Ok-Front.header) _ p.0.1 p.1) (named_alike _ _ (looked_alike _ _ s) _ h.0)
 
@@ -101,7 +101,7 @@ returns-in-Err-take_end-clause-refused g c =
     let s = looked g (goal.at.returns-in-Err-take_end-clause-refused g c).After-peek in
     let p = rw c.in-Ok-End.field-0-is at c.in-Ok-End.ensures.peeked in
     let h = c.in-Err-take_end.ensures.refused in
-    nothing (end_nothing _ _ s c.in-Open.is c.args.wanted (within_constructed g.S.Source.stream g.met.S.Source.sound c.args.self.now)
+    nothing_violated _ _ _ _ _ (end_nothing _ _ s c.in-Open.is c.args.wanted (within_constructed g.S.Source.stream g.met.S.Source.sound c.args.self.now)
     (constructed_form g.S.Source.stream c.args.self.now) (looked_front _ _ s (no_fewer _ _ c.in-Ok-End.ensures.no_fault) h.1) _ p.0.1 p.1)
     (named_alike _ _ (looked_alike _ _ s) _ h.0)
 
@@ -117,7 +117,7 @@ returns-in_default-kind-clause-refused g c =
     let bounded : (of_constructed g.S.Source.stream c.args.self.now).kind ≡ UnboundedValues
     → ⊥ = λ k. c.in_default-kind.not-Unbounded (kind_of _ _ (s.kind ∙ k)) in
     let e = rw c.in-Ok-Nothing.field-0-is at c.in-Ok-Nothing.ensures.peeked in
-    nothing (none_nothing _ _ s c.in-Open.is c.args.wanted c.in-Any.is (constructed_form g.S.Source.stream c.args.self.now) (λ k o.
+    nothing_violated _ _ _ _ _ (none_nothing _ _ s c.in-Open.is c.args.wanted c.in-Any.is (constructed_form g.S.Source.stream c.args.self.now) (λ k o.
     let q : c.args.self.now.kind ≡ kind.Definite = kind_of _ _ k in let r : c.args.self.now.source.now.limit ≡ Some 0 = o in search rules) bounded e)
     (record { violation = violation.TruncatedContents; violates = truncated_contents refl (sym s.rest ∙ e) bounded; named = refl })
 
@@ -131,7 +131,7 @@ unfolding of_constructed
 returns-in-Ok-Refused-clause-refused g c =
     let s = looked g (goal.at.returns-in-Ok-Refused-clause-refused g c).After-peek in
     let p = rw c.in-Ok-Refused.field-0-is at c.in-Ok-Refused.ensures.peeked in
-    nothing (unread_nothing _ _ s c.in-Open.is c.args.wanted (within_constructed g.S.Source.stream g.met.S.Source.sound c.args.self.now)
+    nothing_violated _ _ _ _ _ (unread_nothing _ _ s c.in-Open.is c.args.wanted (within_constructed g.S.Source.stream g.met.S.Source.sound c.args.self.now)
     (constructed_form g.S.Source.stream c.args.self.now) p.0 p.1)
     (record { violation = c.in-Ok-Refused.violation; violates = in_front (front_alike _ _ (looked_alike _ _ s) _ p.2); named = refl })
 
