@@ -33,7 +33,7 @@ enum Class {
 #[derive(Clone, Copy, Debug, PartialEq, Eq)]
 pub struct Tag {
     class: Class,
-    number: u32,
+    number: u64,
 }
 
 impl Model for Tag {
@@ -202,7 +202,7 @@ impl Tag {
     {
         Tag {
             class: Class::Universal,
-            number,
+            number: u64::from(number),
         }
     }
 
@@ -213,7 +213,7 @@ impl Tag {
     {
         Tag {
             class: Class::Application,
-            number,
+            number: u64::from(number),
         }
     }
 
@@ -224,7 +224,7 @@ impl Tag {
     {
         Tag {
             class: Class::ContextSpecific,
-            number,
+            number: u64::from(number),
         }
     }
 
@@ -235,7 +235,7 @@ impl Tag {
     {
         Tag {
             class: Class::Private,
-            number,
+            number: u64::from(number),
         }
     }
 
@@ -272,7 +272,7 @@ impl Tag {
         ensures value { result ≡ self.number }
         ensures limit { result ≤ 2097151 }
     {
-        self.number
+        self.number as u32
     }
 
     /// Returns whether a value may have this tag: every tag except that of the end-of-contents
@@ -307,7 +307,7 @@ fn class_at(octet: u8) -> Class
 ///
 /// Returns it with the octets that follow.
 #[tactic(auto, using(crate::proofs::nat_tests), unfolding(crate::specs::steps::Reading::read_number))]
-fn number_at(octets: &[u8]) -> Option<(u32, &[u8])>
+fn number_at(octets: &[u8]) -> Option<(u64, &[u8])>
     ensures limit { IfSome result (λ r. r.0 ≤ 2097151) }
     ensures read { Answers result (read_number octets.now) }
 {
@@ -317,9 +317,9 @@ fn number_at(octets: &[u8]) -> Option<(u32, &[u8])>
             if *first < 31 || *first == 0x80 {
                 None
             } else if *first < 0x80 {
-                Some((u32::from(*first), rest))
+                Some((u64::from(*first), rest))
             } else {
-                second_digit(u32::from(*first - 0x80), rest)
+                second_digit(u64::from(*first - 0x80), rest)
             }
         }
     }
@@ -328,7 +328,7 @@ fn number_at(octets: &[u8]) -> Option<(u32, &[u8])>
 /// Reads the rest of a number whose digits so far are `high`, and returns it with the octets that
 /// follow.
 #[tactic(auto, using(crate::proofs::nat_tests), unfolding(crate::specs::steps::Reading::second_digit))]
-fn second_digit(high: u32, octets: &[u8]) -> Option<(u32, &[u8])>
+fn second_digit(high: u64, octets: &[u8]) -> Option<(u64, &[u8])>
     requires { high < 128 }
     ensures limit { IfSome result (λ r. r.0 ≤ 2097151) }
     ensures read { Answers result (second_digit high octets.now) }
@@ -337,9 +337,9 @@ fn second_digit(high: u32, octets: &[u8]) -> Option<(u32, &[u8])>
         [] => None,
         [digit, rest @ ..] => {
             if *digit < 0x80 {
-                Some((0x80 * high + u32::from(*digit), rest))
+                Some((0x80 * high + u64::from(*digit), rest))
             } else {
-                third_digit(0x80 * high + u32::from(*digit - 0x80), rest)
+                third_digit(0x80 * high + u64::from(*digit - 0x80), rest)
             }
         }
     }
@@ -348,13 +348,13 @@ fn second_digit(high: u32, octets: &[u8]) -> Option<(u32, &[u8])>
 /// Reads the rest of a number whose digits so far are `high`, if it is one digit, and returns it
 /// with the octets that follow.
 #[tactic(auto, using(crate::proofs::nat_tests), unfolding(crate::specs::steps::Reading::third_digit))]
-fn third_digit(high: u32, octets: &[u8]) -> Option<(u32, &[u8])>
+fn third_digit(high: u64, octets: &[u8]) -> Option<(u64, &[u8])>
     requires { high < 16384 }
     ensures limit { IfSome result (λ r. r.0 ≤ 2097151) }
     ensures read { Answers result (third_digit high octets.now) }
 {
     match octets {
-        [digit, rest @ ..] if *digit < 0x80 => Some((0x80 * high + u32::from(*digit), rest)),
+        [digit, rest @ ..] if *digit < 0x80 => Some((0x80 * high + u64::from(*digit), rest)),
         _ => None,
     }
 }
@@ -367,7 +367,7 @@ pub(crate) fn tag_of_leading(octet: u8) -> Tag
 {
     Tag {
         class: class_at(octet),
-        number: u32::from(octet % 32),
+        number: u64::from(octet % 32),
     }
 }
 
@@ -390,7 +390,7 @@ pub(crate) fn leads_primitive(tag: Tag, octet: u8) -> bool
     ensures form { IsTrue result → is_marked octet ≡ false }
 {
     tag.class == class_at(octet)
-        && tag.number == u32::from(octet % 32)
+        && tag.number == u64::from(octet % 32)
         && octet % 32 < 31
         && !mark_of_leading(octet)
 }

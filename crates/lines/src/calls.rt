@@ -96,7 +96,7 @@ pub const CALLS: [(&str, Call); 34] = [
 ];
 
 /// The number by which a closure refuses. No call returns it by itself.
-pub const OWN: u8 = 200;
+pub const OWN: u64 = 200;
 
 /// The words for the tags.
 const TAGS: [(&str, Tag); 8] = [

@@ -180,7 +180,9 @@ fn of_known<E: Drop>(outcome: Result<Found, DecodeError<E>>, tag: Tag, number: u
         Ok(Found::Passed) => Answer::Taken,
         Ok(_) => Answer::Absent,
         Err(error) => match error.content_error() {
-            Some(ContentError::ExpectedInteger(found)) if *found == number => Answer::Another,
+            Some(ContentError::ExpectedInteger(found)) if *found == u64::from(number) => {
+                Answer::Another
+            }
             _ => error_kind(&error, tag),
         },
     }

@@ -37,7 +37,7 @@ pub enum ContentError {
     ExpectedTag(Tag),
 
     /// This integer was expected, but another was there.
-    ExpectedInteger(u8),
+    ExpectedInteger(u64),
 
     /// The text of a message that users define.
     Boxed(String),

@@ -7,7 +7,7 @@ use std::fmt;
 
 /// Returns the name of the type that a universal number stands for (X.680, 8.4).
 #[tactic(auto, using(crate::proofs::nat_tests), unfolding(crate::specs::calls::TagText::universal_name))]
-fn universal_name(number: u32) -> Option<&'static str>
+fn universal_name(number: u64) -> Option<&'static str>
     ensures { option_map (λ name. name.now) result ≡ universal_name number }
 {
     match number {

@@ -479,7 +479,7 @@ impl<'a, S: Source> Primitive<'a, S> {
         ensures { cause_of result ≡ of_content (ContentError.ExpectedInteger expected) }
     {
         self.source
-            .content_err(ContentError::ExpectedInteger(expected))
+            .content_err(ContentError::ExpectedInteger(u64::from(expected)))
     }
 }
 
