@@ -21,8 +21,8 @@ use Rattle.bcder.specs.laws.Complete.{header_complete, one_list}
 use Rattle.bcder.specs.laws.Sound.{some_inj, none_is}
 use Rattle.bcder.proofs.Headers.{end_no_header}
 use Rattle.bcder.proofs.Segments.{Items, no_items, value, closing, before, AreItems, parts_of, Turn, passes, goes, stops, turn, all_items, all_parts, none_left}
-use Rattle.bcder.proofs.Segments.{Counts, counts_all, counts_shorter, counts_piece, counts_goes, counts_none, counts_cut}
-use Rattle.bcder.proofs.Segments.{Pieces, pieces_shorter, pieces_more, pieces_cut, pieces_few, pieces_other, pieces_nested, pieces_unread}
+use Rattle.bcder.proofs.Segments.{passed_shorter, Counts, counts_all, counts_piece, counts_goes, counts_none, counts_cut}
+use Rattle.bcder.proofs.Segments.{Pieces, pieces_more, pieces_cut, pieces_few, pieces_other, pieces_nested, pieces_unread}
 use Rattle.encodings.specs.Buffers.{IsAtFront}
 use Rattle.encodings.specs.Contents.{HoldsString}
 use Rattle.encodings.specs.Open.{HasNoHeader, NotAtEnd}
@@ -205,7 +205,7 @@ module _ (w rest first now : List ℕ) (at : ℕ) (i : InNested w rest first now
 
   module _ (some : 1 ≤ length rest) where
     pub nested_smaller : (x : List ℕ) (s : Option (List ℕ)) → PassesPiece Ber rest s x → length x < length rest
-    nested_smaller x s q = omega (arith, counts_shorter w rest x i.count (option_map length s) i.counts some q.read)
+    nested_smaller x s q = omega (arith, passed_shorter Ber i.counts.left rest x (option_map length s) i.counts.items some q.read)
 
     pub nested_piece : (x s new : List ℕ) (to : ℕ) → PassesPiece Ber rest (Some s) x
         → ((old v : List ℕ) → IsAtFront v old now at → IsAtFront (v ++ s) old new to) → InNested w x first new to
@@ -269,7 +269,9 @@ module _ (w rest first now : List ℕ) (at count : ℕ) (full : Bool) (i : InFul
 
   module _ (some : 1 ≤ length rest) where
     pub full_smaller : (x : List ℕ) (s : Option (List ℕ)) → PassesPiece Cer rest s x → length x < length rest
-    full_smaller x s q = omega (arith, pieces_shorter w rest x count full (option_map length s) i.pieces some q.read)
+    full_smaller x s q = (let v = i.pieces.left in
+        let h = all_items Cer v rest i.pieces.others in
+        omega (arith, passed_shorter Cer (before v no_items) rest x (option_map length s) h some q.read))
 
     pub full_piece : (x s new : List ℕ) (to : ℕ) → PassesPiece Cer rest (Some s) x → full ≡ true → 1 ≤ length s → length s ≤ 1000
         → ((old v : List ℕ) → IsAtFront v old now at → IsAtFront (v ++ s) old new to) → InFull w x first new to (count + 1) (nat_eq (length s) 1000)
