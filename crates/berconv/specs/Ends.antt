@@ -19,7 +19,8 @@ use Rattle.encodings.specs.Conversion.{IsConversion}
 use Rattle.encodings.specs.Sets.{IsSorting}
 use Rattle.encodings.specs.Values.{AreNoValues, StopsAfter}
 use Rattle.berconv.specs.declared.refusal.Refusal.{Refusal}
-use Rattle.berconv.specs.declared.refusal.Refusal.TheVariants.{NoValues, NotConverted, NoMemory, NoBlock, Unended, OtherLabel, Headers, NotBase64, Misspelled}
+use Rattle.berconv.specs.declared.refusal.Refusal.TheVariants.{NoValues, NotConverted, NoMemory, NoBlock}
+use Rattle.berconv.specs.declared.refusal.Refusal.TheVariants.{Unended, OtherLabel, Headers, NotBase64, Misspelled}
 use Rattle.berconv.specs.declared.request.Request.{Request}
 use Rattle.berconv.specs.Refusals.{RefusedWith, refusal_of, status_of}
 
@@ -45,7 +46,7 @@ IsConverted r octets w = (v : List ℕ) × IsConversion r.from r.to octets v × 
 abbrev pub AppendsConversion : Request → List ℕ → List ℕ → List ℕ → Type 0
 AppendsConversion r octets old new = (w : List ℕ) × IsConverted r octets w × (new ≡ old ++ text_of r.pem w)
 
--- the same of each of these, one after the other
+-- what is written of each of these was appended, one after the other
 abbrev pub AppendsConversions : Request → List (List ℕ) → List ℕ → List ℕ → Type 0
 AppendsConversions r [] old new = new ≡ old
 AppendsConversions r (v ∷ vs) old new = (mid : List ℕ) × AppendsConversion r v old mid × AppendsConversions r vs mid new
@@ -86,7 +87,8 @@ IsRefusedAlone r text e =
 -- octets were written, or a prefix of them before the target failed, which was told
 pub data Puts (w : List ℕ) (out_old out_new err_old err_new : Option (List ℕ)) (s : Status) : Type 0 where
   all : s ≡ status.Done → Appends out_old out_new w → Keeps err_old err_new → Puts w out_old out_new err_old err_new s
-  in_part : s ≡ status.Failed → AppendsFront out_old out_new w → AppendsFront err_old err_new (codes "berconv: the output can't be written\n")
+  in_part : s ≡ status.Failed → AppendsFront out_old out_new w
+      → AppendsFront err_old err_new (codes "berconv: the output can't be written\n")
       → Puts w out_old out_new err_old err_new s
 
 -- nothing was written, and it was told why

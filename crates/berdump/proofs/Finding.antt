@@ -44,7 +44,8 @@ contents_begun scope mode octets at r c n h e = record {
   size = inr refl;
 }
 
-front : (mode : Mode) (t : Tag) (form : Bool) (len : Option ℕ) (w h r : List ℕ) → IsHeader mode t form (length_of len) h → w ≡ h ++ r → Front mode t form len w r
+front : (mode : Mode) (t : Tag) (form : Bool) (len : Option ℕ) (w h r : List ℕ) → IsHeader mode t form (length_of len) h → w ≡ h ++ r
+    → Front mode t form len w r
 front mode t form len w h r i e = record { header = h; is_header = i; are = e }
 
 module _ (scope : Scope) (mode : Mode) (octets : List ℕ) (a b : Option (List ℕ)) (es : List Open) (w r : List ℕ) (at : ℕ) (t : Tag) (form : Bool)

@@ -1,5 +1,6 @@
 -- What a run wrote, at each way that it can go.
-use Rattle.std.proofs.Common.{◌≡◌, ◌≢◌, ◌≤◌, ◌<◌, ℕ, List, [], ◌∷◌, ◌++◌, Bool, true, false, Option, Some, None, codes, drop, length, get_or, suc, ◌+◌, add-one, refl, sym, ap}
+use Rattle.std.proofs.Common.{◌≡◌, ◌≢◌, ◌≤◌, ◌<◌, ℕ, List, [], ◌∷◌, ◌++◌, Bool, true, false}
+use Rattle.std.proofs.Common.{Option, Some, None, codes, drop, length, get_or, suc, ◌+◌, add-one, refl, sym, ap}
 use Rattle.std.proofs.Common.{subst, ◌∙◌, append_assoc, append-nil, inl, inr, ◌⊎◌, MatchResult, arith}
 use Rattle.std.proofs.KnownBytes.{Appends-trans, Appends-kept, Keeps-refl, Keeps-trans}
 use Rattle.std.specs.Io.KnownBytes.{Appends, Keeps}
@@ -11,7 +12,8 @@ use Rattle.berdump.specs.declared.scope.Scope.{Scope}
 use Rattle.cli.specs.declared.status.Status.{Status}
 use Rattle.cli.specs.declared.status.Status.TheVariants as status
 use Rattle.berdump.specs.Answers.{Listed, ListedInPart, CutOff, IsUnlisted, HasContents}
-use Rattle.berdump.specs.Runs.{Ends, IsWhole, IsTitle, AnyTitle, Titled, TitleCutOff, IsText, IsTextInPart, AreWhole, AreParts, joined, AllWritten, SomeWritten, CutWritten}
+use Rattle.berdump.specs.Runs.{Ends, IsWhole, IsTitle, AnyTitle, Titled, TitleCutOff, IsText}
+use Rattle.berdump.specs.Runs.{IsTextInPart, AreWhole, AreParts, joined, AllWritten, SomeWritten, CutWritten}
 use Rattle.berdump.specs.Runs.{IsBound, IsUntitled, status_of, BlockTitled, BlocksListed, IsFile, FilesListed, ValueWritten, IsValueOf, FirstWritten}
 use Rattle.berdump.specs.declared.request.Request.{Request}
 use Rattle.cli.specs.declared.files.Input.{Input}

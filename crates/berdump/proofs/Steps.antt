@@ -52,11 +52,13 @@ module _ (scope : Scope) (mode : Mode) (b c : Option (List ℕ)) (es : List Open
       (meets_definite scope mode octets a b c es w r at t form len s f open_here some behind v n is_len is_form fits is_behind is_v (line k))
 
   pub step_primitive : (fs : List Open) (contents behind v : List ℕ) (n d : ℕ) → len ≡ Some n → form ≡ false → n ≤ length r → contents ≡ take n r → behind
-      ≡ drop n r → Written scope (h ∷ []) b c → PassesContents scope mode t contents behind (at + (length w - length r)) es fs v d → Meets scope mode es w at b fs v d c
+      ≡ drop n r → Written scope (h ∷ []) b c → PassesContents scope mode t contents behind (at + (length w - length r)) es fs v d
+      → Meets scope mode es w at b fs v d c
   step_primitive fs contents behind v n d is_len is_form fits is_contents is_behind k (PassesContents.passed none e is_v is_d) octets a s =
       let size : length contents ≡ n = ap length is_contents ∙ length-take-le n r fits in
       let here : Follows scope mode octets a c s.headings at es (drop n r) (at + (length w - length r) + n) =
-      meets_primitive scope mode octets a b c es w r at t form len s f open_here some n is_len is_form fits (λ z. subst (HoldsNone mode t) is_contents (none z)) (line k) in
+      meets_primitive scope mode octets a b c es w r at t form len s f open_here some n is_len is_form fits
+      (λ z. subst (HoldsNone mode t) is_contents (none z)) (line k) in
       subst (λ z. Follows scope mode octets a c s.headings at z v d) (sym e)
       (subst (λ z. Follows scope mode octets a c s.headings at es z d) (sym (is_v ∙ is_behind))
       (subst (λ z. Follows scope mode octets a c s.headings at es (drop n r) z) (ap (λ m. at + (length w - length r) + m) (sym size) ∙ sym is_d) here))
@@ -152,7 +154,8 @@ passes_opened scope mode t contents behind at es fs rest held d e h k =
 pub passes_over : (scope : Scope) (mode : Mode) (t : Tag) (contents behind : List ℕ) (at : ℕ) (es fs : List Open) (held : Option (Bor (List ℕ)))
     → (scope.inside ≡ true → held ≡ None) → IfNone held (HoldsNone mode t contents) → fs ≡ es
     → PassesContents scope mode t contents behind at es fs behind (at + length contents)
-passes_over scope mode t contents behind at es fs held n h k = PassesContents.passed (λ z. subst (λ o. IfNone o (HoldsNone mode t contents)) (n z) h) k refl refl
+passes_over scope mode t contents behind at es fs held n h k =
+    PassesContents.passed (λ z. subst (λ o. IfNone o (HoldsNone mode t contents)) (n z) h) k refl refl
 
 -- ---- the loop
 

@@ -50,9 +50,14 @@ unwritten scope h a e = record { text = []; lines = hidden_line scope h e; appen
 
 written_join : (scope : Scope) (hs gs : List Heading) (a b c : Option (List ℕ)) → Written scope hs a b → Written scope gs b c → Written scope (hs ++ gs) a c
 written_join scope hs gs a b c h k =
-    record { text = h.text ++ k.text; lines = lines_join scope hs gs h.text k.text h.lines k.lines; appends = Appends-trans a b c h.text k.text h.appends k.appends }
+    record {
+      text = h.text ++ k.text;
+      lines = lines_join scope hs gs h.text k.text h.lines k.lines;
+      appends = Appends-trans a b c h.text k.text h.appends k.appends;
+    }
 
-stand_join : (scope : Scope) (mode : Mode) (octets : List ℕ) (hs gs : List Heading) → AllStand scope mode octets hs → AllStand scope mode octets gs → AllStand scope mode octets (hs ++ gs)
+stand_join : (scope : Scope) (mode : Mode) (octets : List ℕ) (hs gs : List Heading)
+    → AllStand scope mode octets hs → AllStand scope mode octets gs → AllStand scope mode octets (hs ++ gs)
 stand_join scope mode octets [] gs h k = k
 stand_join scope mode octets (x ∷ hs) gs h k = (h.0, stand_join scope mode octets hs gs h.1 k)
 
@@ -154,7 +159,8 @@ module _ (scope : Scope) (mode : Mode) (octets : List ℕ) (a b c : Option (List
     offset = refl;
   }
 
-  pub meets_primitive : (n : ℕ) → len ≡ Some n → form ≡ false → n ≤ length r → (scope.inside ≡ true → HoldsNone mode t (take n r)) → Written scope (the_heading ∷ []) b c
+  pub meets_primitive : (n : ℕ) → len ≡ Some n → form ≡ false → n ≤ length r → (scope.inside ≡ true → HoldsNone mode t (take n r))
+      → Written scope (the_heading ∷ []) b c
       → Follows scope mode octets a c s.headings at es (drop n r) (at + (length w - length r) + n)
   meets_primitive n is_len is_form fits none k =
       let contents = take n r in
@@ -246,7 +252,8 @@ module _ (scope : Scope) (mode : Mode) (octets : List ℕ) (a b c : Option (List
       (sym whole) (value_first scope mode es (f.header ++ (contents ++ end)) others at (the_heading ∷ inside) more
       (IsListed.indefinite t f.header contents end inside (subst (λ g. IsHeader mode t g (length_of None) f.header) is_form header)
       (subst (λ d. AreListed scope mode contents d (length es + 1) inside) (ap (λ d. at + d) hl) listed) is_end refl (rw (is_form, is_len, hl) refl))
-      (subst (λ d. Completes scope mode es others d more) (omega (arith, length-append f.header (contents ++ end), length-append contents end, hl)) completes))))
+      (subst (λ d. Completes scope mode es others d more) (omega (arith, length-append f.header (contents ++ end), length-append contents end, hl))
+      completes))))
       (λ h. fits_indefinite mode es w r f.header t form len f.is_header f.are open_here some h is_len)
       (omega (arith, hl))
       (ap (λ z. z ++ behind_all es) f.are ∙ append_assoc f.header r (behind_all es))

@@ -61,7 +61,7 @@ IsUnlisted scope mode octets old new (Refused at why) =
 IsUnlisted scope mode octets old new NoMemory = ListedInPart scope mode octets old new
 IsUnlisted scope mode octets old new (Target e) = CutOff scope mode octets old new
 
--- the same of one line
+-- what an error says of one line
 abbrev pub IsUnwritten : Scope → Heading → Option (List ℕ) → Option (List ℕ) → ListError → Type 0
 IsUnwritten scope h old new (Refused at why) = ⊥
 IsUnwritten scope h old new NoMemory = Keeps old new
@@ -69,7 +69,8 @@ IsUnwritten scope h old new (Target e) = (text : List ℕ) × AreLines scope (h 
 
 -- octets begin with a header that gives a length, and with so many contents octets; and with one that gives none
 abbrev pub IsDefiniteAt : Mode → List ℕ → List ℕ → Type 0
-IsDefiniteAt mode w contents = (t : Tag) × (form : Bool) × (n : ℕ) × (h r : List ℕ) × IsHeader mode t form (length_of (Some n)) h × (w ≡ h ++ r)
+IsDefiniteAt mode w contents = (t : Tag) × (form : Bool) × (n : ℕ) × (h r : List ℕ) × IsHeader mode t form (length_of (Some n)) h
+    × (w ≡ h ++ r)
     × (n ≤ length r) × (contents ≡ take n r)
 
 abbrev pub IsIndefiniteAt : Mode → List ℕ → List ℕ → Type 0

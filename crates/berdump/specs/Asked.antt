@@ -28,7 +28,7 @@ SetsScope w s rest t behind =
     ⊎ ((n : ℕ) × (w ≡ codes "--offset") × (t ≡ record s { from = n }) × IsNumber rest behind n)
     ⊎ ((n : ℕ) × (w ≡ codes "--depth") × (t ≡ record s { levels = Some n }) × IsNumber rest behind n)
 
--- the same of how files are to be listed
+-- an option changes how files are to be listed, and takes words behind it
 abbrev pub Sets : List ℕ → Request → List (List ℕ) → Request → List (List ℕ) → Type 0
 Sets w r rest q behind =
     ((m : Mode) × (w ≡ rules_option m) × (q ≡ record r { mode = m }) × (behind ≡ rest))

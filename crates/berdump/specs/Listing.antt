@@ -55,12 +55,13 @@ mutual
         → IsEndOfContents mode end
         → w ≡ header ++ (contents ++ end) → hs ≡ heading t true depth at (length header) None ∷ inside → IsListed scope mode w at depth hs
     opened : {w : List ℕ} {at depth : ℕ} {hs : List Heading} (t : Tag) (header front contents : List ℕ) (inside : List Heading)
-        → scope.inside ≡ true → IsHeader mode t false (length_of (Some (length (front ++ contents)))) header → IsFront t front → contents ≢ []
+        → scope.inside ≡ true → IsHeader mode t false (length_of (Some (length (front ++ contents)))) header → IsFront t front
+        → contents ≢ []
         → AreListed scope mode contents (at + length header + length front) (depth + 1) inside
         → w ≡ header ++ (front ++ contents) → hs ≡ heading t false depth at (length header) (Some (length (front ++ contents))) ∷ inside
         → IsListed scope mode w at depth hs
 
-  -- the same of a list of values
+  -- the headings of a list of values, the first of which begins at an offset and lies at a depth
   pub data AreListed (scope : Scope) (mode : Mode) : List ℕ → ℕ → ℕ → List Heading → Type 0 where
     none : {w : List ℕ} {at depth : ℕ} {hs : List Heading} → w ≡ [] → hs ≡ [] → AreListed scope mode w at depth hs
     more : {w : List ℕ} {at depth : ℕ} {hs : List Heading} (first others : List ℕ) (these those : List Heading)

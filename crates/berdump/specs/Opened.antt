@@ -20,7 +20,8 @@ behind_all (Indefinite ∷ es) = behind_all es
 abbrev pub Completes : Scope → Mode → List Open → List ℕ → ℕ → List Heading → Type 0
 Completes scope mode [] w at hs = AreListed scope mode w at 0 hs
 Completes scope mode (Definite behind ∷ es) w at hs =
-    (inside more : List Heading) × AreListed scope mode w at (length es + 1) inside × Completes scope mode es behind.now (at + length w) more
+    (inside more : List Heading) × AreListed scope mode w at (length es + 1) inside
+    × Completes scope mode es behind.now (at + length w) more
     × (hs ≡ inside ++ more)
 Completes scope mode (Indefinite ∷ es) w at hs =
     (contents end others : List ℕ) × (inside more : List Heading) × AreListed scope mode contents at (length es + 1) inside

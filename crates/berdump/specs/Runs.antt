@@ -27,7 +27,8 @@ status_of (Target e) = status.Failed
 
 -- how a run over octets ends: where all is written, all lines of their values from the scope's offset on
 pub data Ends (scope : Scope) (mode : Mode) (octets : List ℕ) (old new : Option (List ℕ)) (s : Status) : Type 0 where
-  listed : s ≡ status.Done → scope.from ≤ length octets → Listed scope mode (drop scope.from octets) old new → Ends scope mode octets old new s
+  listed : s ≡ status.Done → scope.from ≤ length octets → Listed scope mode (drop scope.from octets) old new
+      → Ends scope mode octets old new s
   outside : s ≡ status.Refused → length octets < scope.from → Keeps old new → Ends scope mode octets old new s
   refused : s ≡ status.Refused → IsNoList mode (drop scope.from octets) → ListedInPart scope mode (drop scope.from octets) old new
       → Ends scope mode octets old new s
@@ -137,9 +138,11 @@ pub record BlockTitled (request : Request) (first : Bool) (block : Block) (old n
 
 -- each block that begins in the octets was, one after the other
 pub data BlocksListed (request : Request) : Bool → List ℕ → Option (List ℕ) → Option (List ℕ) → Type 0 where
-  none : {first : Bool} {octets : List ℕ} {old new : Option (List ℕ)} → HasNoBlock octets → Keeps old new → BlocksListed request first octets old new
+  none : {first : Bool} {octets : List ℕ} {old new : Option (List ℕ)} → HasNoBlock octets → Keeps old new
+      → BlocksListed request first octets old new
   more : {first : Bool} {octets : List ℕ} {old new : Option (List ℕ)} (block : Block) (mid : Option (List ℕ)) → IsNext octets block
-      → BlockTitled request first block old mid → BlocksListed request false block.rest.now mid new → BlocksListed request first octets old new
+      → BlockTitled request first block old mid → BlocksListed request false block.rest.now mid new
+      → BlocksListed request first octets old new
 
 -- ---- files
 
@@ -147,7 +150,8 @@ pub data BlocksListed (request : Request) : Bool → List ℕ → Option (List �
 pub data IsInput (request : Request) (octets : List ℕ) (old new : Option (List ℕ)) : Type 0 where
   blocks : HasBlocks request.form octets → (block : Block) → IsNext octets block → BlocksListed request true octets old new
       → IsInput request octets old new
-  one : HasNoBlocks request.form octets → (v : List ℕ) → IsReadAs request.mode request.form octets v → IsWhole request.scope request.mode v old new
+  one : HasNoBlocks request.form octets → (v : List ℕ) → IsReadAs request.mode request.form octets v
+      → IsWhole request.scope request.mode v old new
       → IsInput request octets old new
 
 -- a file was read, and listed behind a title, or without one if it is the only file

@@ -29,11 +29,11 @@ pub record ListsValues (c : Reading) (text : List ℕ) : Type 0 where
 abbrev pub RefusesNext : {S : Type 0} → Reading → DecodeError S → Reading → Type 0
 RefusesNext c e d = IsWant e ⊎ refusals.Refuses cause_of any HasNoNext (λ _. ⊥) c e d
 
--- the same of all values up to the end
+-- why no lines of the values up to the end were gathered: there was no memory, or there are others
 abbrev pub RefusesAll : {S : Type 0} → Reading → DecodeError S → Reading → Type 0
 RefusesAll c e d = IsWant e ⊎ RefusesValues cause_of c e d
 
--- ---- the same of a parameter, by what its content stands for
+-- ---- of a parameter, by what its content stands for
 
 module _ {C : Type 0} (view : C → Reading) (c : Both (MutBor C) (MutBor C)) where
   -- its content is left at the end, and its marker taken

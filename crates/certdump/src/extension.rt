@@ -125,7 +125,8 @@ fn show_value(page: &mut Page, depth: usize, number: &str, octets: &[u8]) -> Res
     }
 }
 
-/// Shows what can be shown of a value that isn't of its type: what it is by BER, or else its octets.
+/// Shows what can be shown of a value that isn't of its type: what it is by BER, or else its
+/// octets.
 fn show_refused(
     page: &mut Page,
     depth: usize,

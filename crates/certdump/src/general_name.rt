@@ -12,8 +12,8 @@ use std::fmt;
 /// `GeneralNames ::= SEQUENCE SIZE (1..MAX) OF GeneralName`. Each is read by its tag.
 pub(crate) type GeneralNames = SequenceOf<Any>;
 
-/// `OtherName ::= SEQUENCE { type-id OBJECT IDENTIFIER, value [0] EXPLICIT ANY DEFINED BY type-id }`,
-/// under its tag.
+/// `OtherName ::= SEQUENCE { type-id OBJECT IDENTIFIER, value [0] EXPLICIT ANY DEFINED BY type-id
+/// }`, under its tag.
 type OtherName = Implicit<Context<0>, Sequence<(ObjectIdentifier, Explicit<Context<0>, Any>)>>;
 
 /// An address of the Internet, with a mask behind it or without one (RFC 5280, section 4.2.1.10).

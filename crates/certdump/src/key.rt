@@ -130,8 +130,8 @@ fn show_key_of(
     Ok(())
 }
 
-/// Shows a public key. If its octets aren't of the type of its algorithm, that is told, and they are
-/// shown.
+/// Shows a public key. If its octets aren't of the type of its algorithm, that is told, and they
+/// are shown.
 pub(crate) fn show_key(
     page: &mut Page,
     depth: usize,

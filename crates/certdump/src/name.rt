@@ -80,7 +80,8 @@ fn add_attribute(
     add_value(page, text, &attribute.value)
 }
 
-/// Returns the text of a name, from the root of the directory down: `C=DE, O=Example, CN=a + UID=b`.
+/// Returns the text of a name, from the root of the directory down:
+/// `C=DE, O=Example, CN=a + UID=b`.
 pub(crate) fn text_of_name(page: &Page, name: &Name) -> Result<String, AllocError> {
     let mut text = String::new(page.alloc);
     for part in name.rdn_sequence.0.iter() {

@@ -56,7 +56,8 @@ in_all w m p b n k e =
 -- two marks at one place are one
 pub one_place : (w m x y u v : List ℕ) → w ≡ x ++ (m ++ y) → w ≡ u ++ (m ++ v) → length x ≡ length u → (x ≡ u) × (y ≡ v)
 one_place w m x y u v e k n =
-    let same : x ≡ u = sym (take-append_seam x (m ++ y)) ∙ ap (take (length x)) (sym e ∙ k) ∙ ap (λ i. take i (u ++ (m ++ v))) n ∙ take-append_seam u (m ++ v) in
+    let same : x ≡ u = sym (take-append_seam x (m ++ y)) ∙ ap (take (length x)) (sym e ∙ k) ∙ ap (λ i. take i (u ++ (m ++ v))) n
+    ∙ take-append_seam u (m ++ v) in
     let rests : m ++ y ≡ m ++ v = sym (drop-append_seam x (m ++ y)) ∙ ap (drop (length x)) (sym e ∙ k) ∙ ap (λ i. drop i (u ++ (m ++ v))) n
     ∙ drop-append_seam u (m ++ v) in
     (same, sym (drop-append_seam m y) ∙ ap (drop (length m)) rests ∙ drop-append_seam m v)

@@ -352,7 +352,7 @@ module _ (mode : Mode) (octets stack : List ℕ) (old : Walk) (os : List Open) (
             others = inr (no_offset, refl);
           }))
 
--- the same step, told of the state before a call that changed nothing
+-- a step is one from the state before a call that changed nothing
 pub advances_from : (mode : Mode) (octets stack after : List ℕ) (mid old new : Walk) (e : Event) (status : ℕ) → mid ≡ old
     → ((os : List Open) (x : List ℕ) → StandsFor octets stack mid os x → IsDue mode os x → Advances mode octets os x stack after mid new e status)
     → (os : List Open) (x : List ℕ) → StandsFor octets stack old os x → IsDue mode os x → Advances mode octets os x stack after old new e status

@@ -67,7 +67,7 @@ unfoldable mutual
   cut_written (made_part c ∷ qs) = in_front c (cut_written qs)
   cut_written (made_string_end ∷ qs) = string_ended (cut_written qs)
 
-  -- the same inside a string that is cut, of which the octets s are to be written before
+  -- what is written inside a string that is cut, of which the octets s are to be written before
   pub inside_cut : ℕ → List Made → List ℕ → Frames
   inside_cut k [] s = body_left k s (ended Cer (record { inner = []; outer = [] }))
   inside_cut k (made_value t c ∷ qs) s = body_left k s (ended Cer (cut_written qs))
@@ -77,7 +77,7 @@ unfoldable mutual
   inside_cut k (made_part c ∷ qs) s = inside_cut k qs (s ++ c)
   inside_cut k (made_string_end ∷ qs) s = body_left k s (ended Cer (cut_written qs))
 
--- the same outside strings that are cut (0), or in one whose open segment has room for so many octets and one
+-- what is written outside strings that are cut (0), or in one whose open segment has room for so many octets and one
 abbrev pub state_written : ℕ → List Made → Frames
 state_written zero qs = cut_written qs
 state_written (suc k) qs = inside_cut k qs []

@@ -182,7 +182,7 @@ headed mode t f = record { inner = header_before mode t f.inner f.outer; outer =
 abbrev pub ended : Mode → Frames → Frames
 ended mode f = record { inner = []; outer = (closing mode ++ f.inner) ∷ f.outer }
 
--- the same of a string, which is primitive
+-- the octets a of the innermost frame become the contents octets of a primitive string
 abbrev pub string_before : Tag → List ℕ → List (List ℕ) → List ℕ
 string_before t a [] = a
 string_before t a (b ∷ fs) = header t false (length_of (Some (length a))) ++ (a ++ b)

@@ -56,7 +56,7 @@ AreArranged mode true ts us = IsPermutation (each ts) (each us) × AreInOrder mo
 AreArranged mode false ts us = us ≡ ts
 
 abbrev mutual
-  -- the same value, but for the order of the values inside each SET
+  -- two values differ at most in the order of the values inside each SET
   pub IsSorted : Mode → Tree → Tree → Type 0
   IsSorted mode (primitive t c) (primitive u d) = (u ≡ t) × (d ≡ c)
   IsSorted mode (primitive t c) (constructed u us) = ⊥

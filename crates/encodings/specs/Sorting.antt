@@ -134,7 +134,7 @@ abbrev pub State : Mode → List ℕ → List Enclosing → List Copied → List
 State mode w [] copied out x = Outside mode w copied out x
 State mode w (f ∷ fs) copied out x = Inside mode f copied out x (State mode w fs)
 
--- the same of those that are in memory, the innermost last
+-- the octets were passed up to x, and copied; the open values in memory, the innermost last
 pub record IsState (mode : Mode) (opened : List Enclosing) (copied : List Copied) (out x : List ℕ) : Type 0 where
   pub whole : List ℕ
   pub state : State mode whole (reverse opened) copied out x

@@ -103,7 +103,7 @@ PassesFirst mode w status c = Passes (FirstValue mode w c) (HasNoValue mode w) m
 abbrev pub PassesAll : Mode → List ℕ → ℕ → Checked → Type 0
 PassesAll mode w status c = Passes (AllValues mode w c) (AreNoValues mode w) mode w status c
 
--- the same, and c tells the octets that it passed, and the values that it met
+-- values were opened down to so many levels, and c tells the octets that it passed, and the values that it met
 pub record GoesDeeper (mode : Mode) (levels : ℕ) (w : List ℕ) (c : Checked) : Type 0 where
   pub opened : List Open
   pub rest : List ℕ

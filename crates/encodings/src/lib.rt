@@ -5,7 +5,8 @@
 //! - [`next`] goes from value to value, and [`heading`] reads the header of one.
 //! - [`contents`], [`bits`], [`magnitude`], [`identifier`], [`string`] and [`text`] tell what the
 //!   contents octets of primitive values mean.
-//! - [`convert`] stores values in other rules, and [`sets`] puts the values inside each SET in order.
+//! - [`convert`] stores values in other rules, and [`sets`] puts the values inside each SET in
+//!   order.
 //!
 //! What can be refused for several reasons returns a number of [`status`].
 #![tactic(auto)]

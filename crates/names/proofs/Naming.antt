@@ -54,7 +54,7 @@ module _ {S A B : Type 0} (steps : S → Option A → S → Type 0) (item : A �
       none [] y k = k
       none (z ∷ zs) y k = y.0 t h
 
--- the same of a text that is equal
+-- a text equal to one without the number has no line with it
 pub no_name_in : (text other number : List ℕ) (r : Option (Bor (List ℕ))) → text ≡ other → IfNone r ((name : List ℕ) → HasLine text number name → ⊥)
     → IfNone r ((name : List ℕ) → HasLine other number name → ⊥)
 no_name_in text other number r e = subst (λ w. IfNone r ((name : List ℕ) → HasLine w number name → ⊥)) e

@@ -1,5 +1,5 @@
-//! What octets break, in rows: the encoding rules, the octets, and for each violation the octet, the
-//! rule and its clause. They are worked by hand from X.690 and X.680.
+//! What octets break, in rows: the encoding rules, the octets, and for each violation the octet,
+//! the rule and its clause. They are worked by hand from X.690 and X.680.
 
 /// The rows.
 pub(crate) const ROWS: &str = "\

@@ -495,7 +495,8 @@ module _ (mode : Mode) (contents : Bool) (octets : List ℕ) where
       subst (λ z. AddsBefore mode contents i.values z i.value.start.now y then l.mid gs new) same l.adds in
       let size : then ≡ i.from + length e.octets_are = omega (arith, k, i.place_at, e.size, c.size) in
       let w : text' ≡ (chosen (gathers_in i.values) (i.before ++ flat u) (i.before)) =
-      l.text_is ∙ left_text (gathers_in i.values) i.value.gathers text i.before i.gathered (flat u) i.value.from i.text_is i.text_from i.inherits i.gathered_is in
+      l.text_is ∙ left_text (gathers_in i.values) i.value.gathers text i.before i.gathered
+      (flat u) i.value.from i.text_is i.text_from i.inherits i.gathered_is in
       let all = one_more i.values i.before text' fs i.opens i.value.start.now e.octets_are y i.from then u gs l.mid new i.around w e.is e.encode size b in
       let told : TellsPlace mode contents octets (MayEnd mode (kind_of f.tag) (are_several f.trees)) old l.first =
       end_told f i.value i.opens e.octets_are y i.from then old l.first i.kind_is i.several i.comes e.encode e.is size l.tells in
@@ -508,7 +509,8 @@ module _ (mode : Mode) (contents : Bool) (octets : List ℕ) where
       }
 
   -- what was met is followed
-  pub met_followed : (es : List Enclosing) (text text' : List ℕ) (fs : List Frame) (os : List Open) (x : List ℕ) (at : ℕ) (ps : List Open) (y : List ℕ) (then : ℕ)
+  pub met_followed : (es : List Enclosing) (text text' : List ℕ) (fs : List Frame) (os : List Open) (x : List ℕ) (at : ℕ) (ps : List Open) (y : List ℕ)
+      (then : ℕ)
       (p : Piece) (met : Met) (s : List ℕ) (start : Bor (List ℕ)) (gs : List Enclosing) (old new : List Breach) → AreAround mode octets es text fs os x at
       → Comes octets os x at → IsMet mode os x at ps y then p met s → start.now ≡ x → Follows mode contents es text start s met y then old gs text' new
       → Followed mode contents octets gs text' (step fs p) ps y then (IsPlaced mode fs p) old new

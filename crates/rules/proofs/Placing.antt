@@ -7,7 +7,8 @@ use Rattle.bcder.specs.laws.Sound.{none_is, some_inj}
 use Rattle.bcder.specs.x690.Identifier.{Tag}
 use Rattle.bcder.specs.x690.Tree.{Tree, primitive, constructed, Trees, no_trees, ◌∷ₜ◌, ◌+++◌}
 use Rattle.encodings.specs.Pieces.{Piece, ends, pieces, pieces_of}
-use Rattle.rules.specs.Placed.{are_several, last_of, unused_of, unused_of_last, MayComeEach, IsInPlace, AreInPlace, Frame, added, step, MayComeIn, IsPlaced, ArePlaced, open_behind}
+use Rattle.rules.specs.Placed.{are_several, last_of, unused_of, unused_of_last, MayComeEach, IsInPlace, AreInPlace}
+use Rattle.rules.specs.Placed.{Frame, added, step, MayComeIn, IsPlaced, ArePlaced, open_behind}
 
 -- ---- stacks
 

@@ -82,7 +82,8 @@ value_judges : (mode : Mode) (contents : Bool) (x : List ℕ) (t : Tag) (f : Boo
     (y : List ℕ) (at then : ℕ) (old new : List Breach) → AreOctets x → IsDue mode os x → BeginsValue mode x t f size c o
     → Enters f size c o at os ps y then → Looks mode contents t f size c at old new → Judges mode contents os x at ps y then old new (met_meant t f c) c
 value_judges mode contents x t false size c o os ps y at then old new octets due b i l =
-    passes (value t c) (of_value t size c refl refl (subst (BeginsValue mode x t false size c) i.1 b) (octets_inside mode x t false size c o octets b) refl i.0 i.2)
+    passes (value t c) (of_value t size c refl refl (subst (BeginsValue mode x t false size c) i.1 b)
+    (octets_inside mode x t false size c o octets b) refl i.0 i.2)
     (value_next mode os x t false c o y octets due (as_piece mode x t false size c o b) refl i.1
     ∙ ap (λ k. before_all (value t c ∷ []) (pieces_left mode k y)) (sym i.0)) (value_judged mode contents t size c at old new l)
 value_judges mode contents x t true size c o os ps y at then old new octets due b i l =
@@ -93,7 +94,8 @@ value_judges mode contents x t true size c o os ps y at then old new octets due 
 -- ---- one step
 
 pub value_passed : (mode : Mode) (contents : Bool) (x : List ℕ) (t : Tag) (f : Bool) (size : ℕ) (c : List ℕ) (o : Open) (os ps : List Open)
-    (y : List ℕ) (at then : ℕ) (old new : List Breach) (met : Met) (d : List ℕ) → AreOctets x → IsDue mode os x → BeginsValue mode x t f size c o → met ≡ met_meant t f c → d ≡ c
+    (y : List ℕ) (at then : ℕ) (old new : List Breach) (met : Met) (d : List ℕ) → AreOctets x → IsDue mode os x → BeginsValue mode x t f size c o
+    → met ≡ met_meant t f c → d ≡ c
     → PassesValue mode contents t f size c o os x at old ps y then new → Passes mode contents os x at old ps y then new met d
 value_passed mode contents x t f size c o os ps y at then old new met d octets due b e q p = record {
   onward = p.onward;

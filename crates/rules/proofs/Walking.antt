@@ -73,7 +73,8 @@ mutual
 
 -- ---- the walk
 
-pub walk_starts : (mode : Mode) (contents : Bool) (octets : List ℕ) (os : List Open) (es : List Enclosing) (text : List ℕ) (whole : Bool) (at : ℕ) (found : List Breach)
+pub walk_starts : (mode : Mode) (contents : Bool) (octets : List ℕ) (os : List Open) (es : List Enclosing) (text : List ℕ) (whole : Bool) (at : ℕ)
+    (found : List Breach)
     → os ≡ [] → es ≡ [] → whole ≡ true → at ≡ 0 → found ≡ [] → InWalk mode contents octets os es text whole octets at found
 walk_starts mode contents octets os es text whole at found e a w n f =
     rw (e, n, f) (record {
@@ -137,7 +138,8 @@ module _ (mode : Mode) (contents : Bool) (octets : List ℕ) where
   hold_on P mid new h (misplaced b q z k c n) =
       subst (All (Holds mode octets)) (sym q) (All-append (Holds mode octets) mid b h k)
 
-  hold_more : (os ps : List Open) (x y : List ℕ) (at then : ℕ) (old mid : List Breach) (met : Met) (d : List ℕ) → Comes octets os x at → All (Holds mode octets) old
+  hold_more : (os ps : List Open) (x y : List ℕ) (at then : ℕ) (old mid : List Breach) (met : Met) (d : List ℕ) → Comes octets os x at
+      → All (Holds mode octets) old
       → Passes mode contents os x at old ps y then mid met d → All (Holds mode octets) mid
   hold_more os ps x y at then old mid met d k h p =
       let a = p.onward.adds in
@@ -201,7 +203,8 @@ module _ (mode : Mode) (contents : Bool) (octets : List ℕ) where
       go (so_far z passed same around v) (loses k told none) = absurd (l k)
       go (so_far z passed same around v) (passes q m left j) = all passed same around v q m left j
 
-  pub walk_ends : (os : List Open) (es : List Enclosing) (text : List ℕ) (whole : Bool) (x : List ℕ) (at : ℕ) (found : List Breach) → AreOctets octets → os ≡ [] → x ≡ []
+  pub walk_ends : (os : List Open) (es : List Enclosing) (text : List ℕ) (whole : Bool) (x : List ℕ) (at : ℕ) (found : List Breach) → AreOctets octets
+      → os ≡ [] → x ≡ []
       → InWalk mode contents octets os es text whole x at found → (found ≡ []) ↔ AreRight mode contents octets
   walk_ends os es text whole x at found o none nothing i = go i.followed
     where

@@ -1,5 +1,6 @@
 -- The values around the octets to come, as they are in memory.
-use Rattle.std.specs.Prelude.{◌≡◌, ◌≢◌, ◌⊎◌, ℕ, ◌+◌, ◌-◌, ◌<◌, Bool, true, false, ⊤, List, [], ◌∷◌, ◌++◌, length, slice_index, Option, Some, None, is_some, option_map, take, drop, ◌||◌}
+use Rattle.std.specs.Prelude.{◌≡◌, ◌≢◌, ◌⊎◌, ℕ, ◌+◌, ◌-◌, ◌<◌, Bool, true, false, ⊤, List}
+use Rattle.std.specs.Prelude.{[], ◌∷◌, ◌++◌, length, slice_index, Option, Some, None, is_some, option_map, take, drop, ◌||◌}
 use denote.Ref.{Bor}
 use Rattle.bcder.specs.declared.mode.Mode.{Mode}
 use Rattle.bcder.specs.declared.mode.Mode.TheVariants.{Ber}
@@ -54,7 +55,8 @@ pub data BreaksFit (mode : Mode) (e : Enclosing) (n : Element) (rule : Rule) : T
   out_of_order : rule ≡ r.OutOfOrder → (KeepsOrder mode e.sorts e.last n → ⊥) → BreaksFit mode e n rule
   other_tag : rule ≡ r.SegmentTag e.kind → (HasSegmentTag e.kind (element_outline n) → ⊥) → BreaksFit mode e n rule
   behind_unused : rule ≡ r.SegmentUnused → (IsBehindWhole e.kind (option_map element_outline e.last) → ⊥) → BreaksFit mode e n rule
-  other_size : rule ≡ r.SegmentSize → (IsCut mode e.kind (option_map element_outline e.last) (element_outline n) → ⊥) → BreaksFit mode e n rule
+  other_size : rule ≡ r.SegmentSize → (IsCut mode e.kind (option_map element_outline e.last) (element_outline n) → ⊥)
+      → BreaksFit mode e n rule
 
 -- it is the last one then
 abbrev pub with_last : Element → Enclosing → Enclosing
@@ -72,7 +74,8 @@ with_last n e = record {
 -- it is told if it doesn't fit
 pub data TellsFit (mode : Mode) (contents : Bool) (e : Enclosing) (n : Element) (at : ℕ) (old new : List Breach) : Type 0 where
   fits : new ≡ old → (contents ≡ true → Fits mode e n) → TellsFit mode contents e n at old new
-  misfits : (rule : Rule) → new ≡ old ++ record { at = at - length n.octets.now; rule = rule } ∷ [] → contents ≡ true → BreaksFit mode e n rule
+  misfits : (rule : Rule) → new ≡ old ++ record { at = at - length n.octets.now; rule = rule } ∷ [] → contents ≡ true
+      → BreaksFit mode e n rule
       → TellsFit mode contents e n at old new
 
 -- an element of the innermost open value was passed
@@ -80,7 +83,7 @@ abbrev pub Adds : Mode → Bool → List Enclosing → Element → ℕ → List 
 Adds mode contents [] n at old fs new = (fs ≡ []) × (new ≡ old)
 Adds mode contents (e ∷ es) n at old fs new = (fs ≡ with_last n e ∷ es) × TellsFit mode contents e n at old new
 
--- the same of an element with this outline, which is before the octets `rest`
+-- an element with this outline, in front of the octets `rest`, was passed
 pub record AddsBefore (mode : Mode) (contents : Bool) (es : List Enclosing) (o : Outline) (start rest : List ℕ) (at : ℕ) (old : List Breach)
     (fs : List Enclosing) (new : List Breach) : Type 0 where
   pub element : Element
@@ -91,7 +94,8 @@ pub record AddsBefore (mode : Mode) (contents : Bool) (es : List Enclosing) (o :
 -- a value that ends is told if it is cut in vain
 pub data TellsEnd (mode : Mode) (contents : Bool) (e : Enclosing) (rest : List ℕ) (at : ℕ) (old new : List Breach) : Type 0 where
   whole : new ≡ old → (contents ≡ true → MayEnd mode e.kind e.several) → TellsEnd mode contents e rest at old new
-  in_vain : (place : ℕ) → new ≡ old ++ record { at = place; rule = r.SegmentSize } ∷ [] → contents ≡ true → (MayEnd mode e.kind e.several → ⊥)
+  in_vain : (place : ℕ) → new ≡ old ++ record { at = place; rule = r.SegmentSize } ∷ [] → contents ≡ true
+      → (MayEnd mode e.kind e.several → ⊥)
       → ((v : List ℕ) → e.start.now ≡ v ++ rest → place ≡ at - length v) → TellsEnd mode contents e rest at old new
 
 -- a string that ends is told if its segments aren't characters of its type
@@ -135,7 +139,8 @@ begun_value p s k start from gathers =
     record { place = p; sorts = s; kind = k; start = start; from = from; gathers = is_string k || gathers; several = false; last = None }
 
 -- what was met is followed; `text` are the contents octets that were gathered
-abbrev pub Follows : Mode → Bool → List Enclosing → List ℕ → Bor (List ℕ) → List ℕ → Met → List ℕ → ℕ → List Breach → List Enclosing → List ℕ
+abbrev pub Follows : Mode → Bool → List Enclosing → List ℕ → Bor (List ℕ) → List ℕ → Met → List ℕ → ℕ → List Breach → List Enclosing
+    → List ℕ
     → List Breach → Type 0
 Follows mode contents es text start c (m.Value p n u) rest at old fs then new =
     AddsBefore mode contents es (record { place = p; size = Some n; unused = u }) start.now rest at old fs new

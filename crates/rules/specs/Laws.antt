@@ -18,5 +18,6 @@ SetsAreInOrder =
 -- 8.7.3, 9.2: values that mean some of their types are the segments of a string
 abbrev pub StringsAreSegmented : Type 0
 StringsAreSegmented =
-    (mode : Mode) (t : Tag) (ts : Trees) → mode ≢ Der → IsString (kind_of t) → is_bits (kind_of t) ≡ false → AreMeant mode ts → AreInPlace mode ts
+    (mode : Mode) (t : Tag) (ts : Trees) → mode ≢ Der → IsString (kind_of t) → is_bits (kind_of t) ≡ false → AreMeant mode ts
+    → AreInPlace mode ts
     → MayComeEach mode t None ts × MayEnd mode (kind_of t) (are_several ts) ↔ AreSegmentsIn mode ts

@@ -76,7 +76,7 @@ abbrev mutual
   AreMeant mode no_trees = ⊤
   AreMeant mode (t ∷ₜ ts) = IsMeant mode t × AreMeant mode ts
 
--- the same of a value without those inside it
+-- a value means something, whatever the values inside it are
 abbrev pub IsMeantAlone : Mode → Tag → Bool → List ℕ → Type 0
 IsMeantAlone mode t false c = MeansOne mode (kind_of t) c
 IsMeantAlone mode t true c = MayBeConstructed mode (kind_of t)

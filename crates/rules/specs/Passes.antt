@@ -56,14 +56,14 @@ pub record Onward (mode : Mode) (os : List Open) (x : List ℕ) (at : ℕ) (old 
   pub goes : GoesTo os x at ps y then
   pub adds : Adds mode os x at old new
 
--- the same, with the value that was entered
+-- a step of the walk into a value, which was looked at
 pub record PassesValue (mode : Mode) (contents : Bool) (t : Tag) (form : Bool) (size : ℕ) (c : List ℕ) (behind : Open) (os : List Open)
     (x : List ℕ) (at : ℕ) (old : List Breach) (ps : List Open) (y : List ℕ) (then : ℕ) (new : List Breach) : Type 0 where
   pub onward : Onward mode os x at old ps y then new
   pub enters : Enters form size c behind at os ps y then
   pub looks : Looks mode contents t form size c at old new
 
--- the same, and something was told
+-- a step of the walk that told something
 pub record PassesBroken (mode : Mode) (os : List Open) (x : List ℕ) (at : ℕ) (old : List Breach) (ps : List Open) (y : List ℕ) (then : ℕ)
     (new : List Breach) : Type 0 where
   pub onward : Onward mode os x at old ps y then new
@@ -80,9 +80,11 @@ pub data IsMet (mode : Mode) (os : List Open) (x : List ℕ) (at : ℕ) (ps : Li
     (contents : List ℕ) : Type 0 where
   of_value : (t : Tag) (size : ℕ) (c : List ℕ) → p ≡ value t c → met ≡ met_meant t false c → BeginsValue mode x t false size c (Some y)
       → AreOctets c → contents ≡ c → ps ≡ os → then ≡ at + size + length c → IsMet mode os x at ps y then p met contents
-  of_beginning : (t : Tag) (size : ℕ) (o : Open) → p ≡ begins t → met ≡ met_meant t true y → BeginsValue mode x t true size y o → ps ≡ o ∷ os
+  of_beginning : (t : Tag) (size : ℕ) (o : Open) → p ≡ begins t → met ≡ met_meant t true y → BeginsValue mode x t true size y o
+      → ps ≡ o ∷ os
       → then ≡ at + size → IsMet mode os x at ps y then p met contents
-  of_end : (o : Open) (n : ℕ) → p ≡ ends → met ≡ m.End → Closes mode o x y n → os ≡ o ∷ ps → then ≡ at + n → IsMet mode os x at ps y then p met contents
+  of_end : (o : Open) (n : ℕ) → p ≡ ends → met ≡ m.End → Closes mode o x y n → os ≡ o ∷ ps → then ≡ at + n
+      → IsMet mode os x at ps y then p met contents
 
 -- a piece breaks no rule of contents octets, and nothing was added; or it does, and something was
 pub data IsJudged (mode : Mode) (contents : Bool) (p : Piece) (old new : List Breach) : Type 0 where
@@ -111,7 +113,8 @@ pub data IsVerdict (mode : Mode) (contents : Bool) (octets : List ℕ) (passed :
   wrong : 0 < length found → (AreRight mode contents octets → ⊥) → IsVerdict mode contents octets passed found
 
 -- pieces were passed, and the values around what comes are known; or a rule of headers or of ends is broken
-pub data IsFollowed (mode : Mode) (contents : Bool) (octets : List ℕ) (os : List Open) (es : List Enclosing) (text : List ℕ) (whole : Bool) (x : List ℕ)
+pub data IsFollowed (mode : Mode) (contents : Bool) (octets : List ℕ) (os : List Open) (es : List Enclosing) (text : List ℕ)
+    (whole : Bool) (x : List ℕ)
     (at : ℕ) (found : List Breach) : Type 0 where
   so_far : whole ≡ true → (passed : List Piece) → pieces_left mode [] octets ≡ before_all passed (pieces_left mode os x)
       → AreAround mode octets es text (open_behind [] passed) os x at → IsVerdict mode contents octets passed found
@@ -119,7 +122,8 @@ pub data IsFollowed (mode : Mode) (contents : Bool) (octets : List ℕ) (os : Li
   no_values : whole ≡ false → 0 < length found → (AreRight mode contents octets → ⊥)
       → IsFollowed mode contents octets os es text whole x at found
 
-pub record InWalk (mode : Mode) (contents : Bool) (octets : List ℕ) (os : List Open) (es : List Enclosing) (text : List ℕ) (whole : Bool) (x : List ℕ) (at : ℕ)
+pub record InWalk (mode : Mode) (contents : Bool) (octets : List ℕ) (os : List Open) (es : List Enclosing) (text : List ℕ) (whole : Bool)
+    (x : List ℕ) (at : ℕ)
     (found : List Breach) : Type 0 where
   pub comes : Comes octets os x at
   pub hold : All (Holds mode octets) found

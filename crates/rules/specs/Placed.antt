@@ -105,7 +105,7 @@ pub record MayCome (mode : Mode) (t : Tag) (last : Option Tree) (v : Tree) : Typ
   pub unused : IsBehindWhole (kind_of t) (option_map outline last)
   pub cut : IsCut mode (kind_of t) (option_map outline last) (outline v)
 
--- the same of each of values inside a value with this tag, the first of which comes behind `last`
+-- each value inside a value with this tag may come behind the one before it, and the first behind `last`
 abbrev pub MayComeEach : Mode → Tag → Option Tree → Trees → Type 0
 MayComeEach mode t last no_trees = ⊤
 MayComeEach mode t last (v ∷ₜ vs) = MayCome mode t last v × MayComeEach mode t (Some v) vs

@@ -1,5 +1,5 @@
-//! The values around the octets to come: the order of the values inside each SET, and the segments of
-//! strings.
+//! The values around the octets to come: the order of the values inside each SET, and the segments
+//! of strings.
 ghost use Rattle.std.specs.Prelude.{◌≡◌, ◌≢◌, ◌↔◌, ◌++◌, [], List, ℕ, IsTrue, OnOk, IfSome, IfNone};
 ghost use Rattle.std.specs.Prelude.{option_map, reverse, drop, slice_index, take};
 ghost use Rattle.bcder.specs.declared.mode.Mode.TheVariants.{Ber, Cer};
@@ -72,8 +72,8 @@ pub(crate) enum Met {
     /// them, or 0.
     Value(u64, usize, u8),
 
-    /// The header of a constructed value: the place of its tag, whether it is a SET, and the kind of
-    /// its type.
+    /// The header of a constructed value: the place of its tag, whether it is a SET, and the kind
+    /// of its type.
     Begin(u64, bool, Kind),
 
     /// The end of a constructed value.
@@ -396,8 +396,8 @@ fn behind(octets: &[u8], from: usize) -> &[u8]
     }
 }
 
-/// Tells a string whose segments aren't characters of its type. The octets behind it are `rest`, the
-/// first of them at `at`.
+/// Tells a string whose segments aren't characters of its type. The octets behind it are `rest`,
+/// the first of them at `at`.
 fn tell_text(
     mode: Mode,
     contents: bool,

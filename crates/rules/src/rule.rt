@@ -31,8 +31,9 @@ pub enum Rule {
     /// In DER, a string is constructed (10.2).
     StringCut,
 
-    /// In CER or DER, a value inside a SET comes before the one in front of it, by their tags or, if
-    /// these are the same, by their octets (9.3, 10.3, 11.6). Octets don't tell a SET from a SET OF.
+    /// In CER or DER, a value inside a SET comes before the one in front of it, by their tags or,
+    /// if these are the same, by their octets (9.3, 10.3, 11.6). Octets don't tell a SET from a SET
+    /// OF.
     OutOfOrder,
 
     /// A value inside a constructed string has another tag than its segments: BIT STRING in a BIT

@@ -187,7 +187,8 @@ fn is_fraction(octets: &[u8], from: usize, to: usize) -> bool
         && are_digits(octets, from + 1, to)
 }
 
-/// Returns whether the first octets are so many digits, with a fraction of the last unit or without.
+/// Returns whether the first octets are so many digits, with a fraction of the last unit or
+/// without.
 fn is_local_time_of(octets: &[u8], digits: usize, to: usize) -> bool
     requires { to ≤ length octets.now }
     ensures { IsTrue result ↔ IsLocalTimeOf octets.now digits to }

@@ -429,7 +429,8 @@ fn go_on<'a>(
     requires some { 0 < opened.old.len + length place.rest.now }
     requires room { place.at
         + length (to_come (open_values opened.old.items) place.rest.now) < 2 ^ 64 }
-    ensures smaller { IfOk result (λ p. length (to_come (open_values opened.new.items) p.rest.now) * 2
+    ensures smaller { IfOk result (λ p.
+        length (to_come (open_values opened.new.items) p.rest.now) * 2
         + length (open_values opened.new.items)
         < length (to_come (open_values opened.old.items) place.entry.rest.now) * 2
         + length (open_values opened.old.items)) }
@@ -476,8 +477,8 @@ fn go_on<'a>(
 /// values inside each SET break. There is nothing exactly if they are.
 ///
 /// Octets don't tell a SET from a SET OF: its values have to be in the order of their tags, and
-/// those with the same tag in the order of their octets, as [`encodings::sets`] puts them. Order and
-/// segments are looked at up to the first octet that breaks a rule of headers.
+/// those with the same tag in the order of their octets, as [`encodings::sets`] puts them. Order
+/// and segments are looked at up to the first octet that breaks a rule of headers.
 ///
 /// ```text
 /// breaches(alloc, Mode::Der, true, &[0x30, 0x03, 0x01, 0x01, 0x01])   // at 4: BooleanValue

@@ -13,7 +13,8 @@ pub record Reserves (old : Sizes) (place : ℕ) (new : Sizes) : Type 0 where
 
 -- the size was put into the place
 pub record Fills (old : Sizes) (place size : ℕ) (new : Sizes) : Type 0 where
-  pub there : (before behind : List ℕ) (k : ℕ) → noted old ≡ before ++ k ∷ behind → place ≡ length before → noted new ≡ before ++ size ∷ behind
+  pub there : (before behind : List ℕ) (k : ℕ) → noted old ≡ before ++ k ∷ behind → place ≡ length before
+      → noted new ≡ before ++ size ∷ behind
   pub beyond : length (noted old) ≤ place → noted new ≡ noted old
   pub room : new.room ≡ old.room
 

@@ -8,7 +8,8 @@ use Rattle.berdump.proofs.list.list_value.Goals as goal
 
 pub returns-in_default-clause-stops : goal.returns-in_default-clause-stops
 returns-in_default-clause-stops g c = stops_at_header c.args.scope c.args.mode
-    (g.W.Write.contents c.args.target.now) c.args.opened.now.items c.args.rest.now c.args.at c.requires.goes_on c.requires.some c.in_default.ensures.none c.reason_at.result c.reason_at.ensures
+    (g.W.Write.contents c.args.target.now) c.args.opened.now.items c.args.rest.now c.args.at c.requires.goes_on c.requires.some
+    c.in_default.ensures.none c.reason_at.result c.reason_at.ensures
 
 pub returns-in-Err-clause-stops : goal.returns-in-Err-clause-stops
 returns-in-Err-clause-stops g c = stops_unwritten c.args.scope c.args.mode (g.W.Write.contents c.args.target.now) (g.W.Write.contents c.open_value.new.target)
@@ -67,7 +68,8 @@ returns-clause-meets g c = ok_step c.list_primitive.result
     (c.args.at + (length c.args.rest.now - length c.in-Some.front.rest.now)) c.args.opened.now.items c.list_primitive.new.opened.items p.rest.now p.at)
     (λ p. Meets c.args.scope c.args.mode c.args.opened.now.items c.args.rest.now c.args.at
     (g.W.Write.contents c.args.target.now) c.list_primitive.new.opened.items p.rest.now p.at (g.W.Write.contents c.list_primitive.new.target))
-    (Written c.args.scope (heading c.in-Some.front.tag c.in-Some.front.constructed c.len.result c.args.at (length c.args.rest.now - length c.in-Some.front.rest.now)
+    (Written c.args.scope (heading c.in-Some.front.tag c.in-Some.front.constructed c.len.result c.args.at
+    (length c.args.rest.now - length c.in-Some.front.rest.now)
     c.in-Some.front.len ∷ []) (g.W.Write.contents c.args.target.now) (g.W.Write.contents c.list_primitive.new.target))
     c.list_primitive.ensures.passes c.list_primitive.ensures.written
     (λ p h k. step_primitive c.args.scope c.args.mode (g.W.Write.contents c.args.target.now) (g.W.Write.contents c.list_primitive.new.target)
@@ -81,7 +83,8 @@ returns-clause-less g c = ok_step c.list_primitive.result
     (λ p. PassesContents c.args.scope c.args.mode c.in-Some.front.tag c.split_at.result.0.now c.split_at.result.1.now
     (c.args.at + (length c.args.rest.now - length c.in-Some.front.rest.now)) c.args.opened.now.items c.list_primitive.new.opened.items p.rest.now p.at)
     (λ p. left c.list_primitive.new.opened.items p.rest.now < left c.args.opened.now.items c.args.rest.now)
-    (Written c.args.scope (heading c.in-Some.front.tag c.in-Some.front.constructed c.len.result c.args.at (length c.args.rest.now - length c.in-Some.front.rest.now)
+    (Written c.args.scope (heading c.in-Some.front.tag c.in-Some.front.constructed c.len.result c.args.at
+    (length c.args.rest.now - length c.in-Some.front.rest.now)
     c.in-Some.front.len ∷ []) (g.W.Write.contents c.args.target.now) (g.W.Write.contents c.list_primitive.new.target))
     c.list_primitive.ensures.passes c.list_primitive.ensures.written
     (λ p h k. less_primitive c.args.scope c.args.mode (g.W.Write.contents c.args.target.now) (g.W.Write.contents c.list_primitive.new.target)
@@ -92,7 +95,8 @@ returns-clause-less g c = ok_step c.list_primitive.result
 
 pub returns-clause-stops : goal.returns-clause-stops
 returns-clause-stops g c = err_step c.list_primitive.result
-    (IsUnwritten c.args.scope (heading c.in-Some.front.tag c.in-Some.front.constructed c.len.result c.args.at (length c.args.rest.now - length c.in-Some.front.rest.now)
+    (IsUnwritten c.args.scope (heading c.in-Some.front.tag c.in-Some.front.constructed c.len.result c.args.at
+    (length c.args.rest.now - length c.in-Some.front.rest.now)
     c.in-Some.front.len) (g.W.Write.contents c.args.target.now) (g.W.Write.contents c.list_primitive.new.target))
     (Stops c.args.scope c.args.mode c.args.opened.now.items c.args.rest.now c.args.at (g.W.Write.contents c.args.target.now)
     (g.W.Write.contents c.list_primitive.new.target))

@@ -28,5 +28,6 @@ returns-in-Ok-write_title-clause-bound g c = bound_join c.args.request.scope c.a
 
 pub returns-in-Err-write_title-clause-bound : goal.returns-in-Err-write_title-clause-bound
 returns-in-Err-write_title-clause-bound g c = bound_untitled c.args.request.scope c.args.request.mode c.args.is_first (g.W.Write.contents c.args.out.now)
-    (g.W.Write.contents c.write_title.new.out) (g.W.Write.contents c.write_title.new.out) c.in-Err-write_title.error c.tell_error.result c.tell_error.ensures.status
+    (g.W.Write.contents c.write_title.new.out) (g.W.Write.contents c.write_title.new.out) c.in-Err-write_title.error
+    c.tell_error.result c.tell_error.ensures.status
     c.in-Err-write_title.ensures.untitled (Keeps-refl (g.W.Write.contents c.write_title.new.out))

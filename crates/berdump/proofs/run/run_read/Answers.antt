@@ -21,7 +21,8 @@ returns-in-Ok-Some-clause-bound g c = bound_ends c.args.request.scope c.args.req
 pub returns-in-Ok-None-clause-input : goal.returns-in-Ok-None-clause-input
 returns-in-Ok-None-clause-input g c = λ z. IsInput.one (c.has_blocks.ensures.no c.if-has_blocks.false) c.args.octets.now
     (inr (rw c.in-Ok-None.field-0-is at c.in-Ok-None.ensures.nothing, refl)) (whole_ends c.args.request.scope c.args.request.mode c.args.octets.now
-    (g.W.Write.contents c.args.out.now) (g.W.Write.contents c.run_octets-in-Ok-None.new.out) c.run_octets-in-Ok-None.result z c.run_octets-in-Ok-None.ensures.ends)
+    (g.W.Write.contents c.args.out.now) (g.W.Write.contents c.run_octets-in-Ok-None.new.out) c.run_octets-in-Ok-None.result z
+    c.run_octets-in-Ok-None.ensures.ends)
 
 pub returns-in-Ok-None-clause-bound : goal.returns-in-Ok-None-clause-bound
 returns-in-Ok-None-clause-bound g c = bound_ends c.args.request.scope c.args.request.mode c.args.octets.now (g.W.Write.contents c.args.out.now)
