@@ -66,7 +66,7 @@ pub(crate) fn is_unsigned(octets: &[u8]) -> bool
 
 /// Returns an octet, with all its bits inverted if the number is negative.
 #[inline(always)]
-pub(crate) fn turned(negative: bool, bits: u8) -> u8
+pub(crate) fn invert_if(negative: bool, bits: u8) -> u8
     ensures { result ≡ octet negative bits }
 {
     if negative { 255 - bits } else { bits }
@@ -80,7 +80,7 @@ fn magnitude_of(negative: bool, octets: &[u8]) -> u128
 {
     let mut value = 0u128;
     for octet in octets {
-        value = value * 256 + u128::from(turned(negative, *octet));
+        value = value * 256 + u128::from(invert_if(negative, *octet));
     }
     value
 }
@@ -94,7 +94,7 @@ fn short_magnitude_of(negative: bool, octets: &[u8]) -> u64
 {
     let mut value = 0u64;
     for octet in octets {
-        value = value * 256 + u64::from(turned(negative, *octet));
+        value = value * 256 + u64::from(invert_if(negative, *octet));
     }
     value
 }
@@ -131,7 +131,7 @@ fn parts_of(octets: &[u8]) -> Option<(bool, u128)>
     if octets.len() <= 16 {
         return Some((negative, magnitude_of(negative, octets)));
     }
-    if octets.len() == 17 && turned(negative, octets[0]) == 0 {
+    if octets.len() == 17 && invert_if(negative, octets[0]) == 0 {
         return Some((negative, magnitude_of(negative, octets.split_at(1).1)));
     }
     None
@@ -144,7 +144,7 @@ fn small<N: Number>(first: u8) -> Option<N>
     ensures none { IfNone result (IsNoNumber N.in_range (first ∷ [])) }
 {
     if first >= 0x80 {
-        return N::of(true, u128::from(turned(true, first)));
+        return N::of(true, u128::from(invert_if(true, first)));
     }
     N::of(false, u128::from(first))
 }

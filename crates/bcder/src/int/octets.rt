@@ -3,7 +3,7 @@ ghost use Rattle.std.specs.Prelude.{◌≡◌, ◌≤◌, ◌<◌, ◌+◌, ◌+
 ghost use Rattle.std.specs.Int.{complement_if, to_be_bytes, w128};
 ghost use Rattle.bcder.specs.x690.Integer.{AreInteger, IsTurned, integer_octets};
 
-use crate::int::number::turned;
+use crate::int::number::invert_if;
 
 /// Short contents octets, such as those of a number (X.690, 8.3), at the end of a buffer that has
 /// room for a header before them.
@@ -48,7 +48,7 @@ impl Octets {
         ensures room { 7 ≤ result.start }
     {
         let others = (128 - magnitude.leading_zeros()) as usize / 8;
-        let buffer = behind(turned(negative, 0), bits_of(negative, magnitude));
+        let buffer = behind(invert_if(negative, 0), bits_of(negative, magnitude));
         Octets {
             buffer,
             start: 23 - others,

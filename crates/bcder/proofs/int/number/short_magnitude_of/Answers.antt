@@ -11,5 +11,5 @@ overflow_mul-value c =
 pub overflow_add-value : goal.overflow_add-value
 overflow_add-value c =
     let o : AreOctets c.args.octets.now = λ i. omega (arith, c.type_inv.octets i) in
-    let b : c.turned.result < 256 = omega arith in
+    let b : c.invert_if.result < 256 = omega arith in
     omega (arith, short_magnitude_fits c.args.negative c.args.octets.now c.loop-octet.octet-index o (omega arith) (omega arith), c.loop-octet.invariant)

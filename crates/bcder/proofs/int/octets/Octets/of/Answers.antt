@@ -135,13 +135,13 @@ ends neg n x lead buffer h t is whole =
 
 pub returns-clause-octets : goal.returns-clause-octets
 returns-clause-octets c =
-    sym (ends c.args.negative c.args.magnitude c.bits_of.result c.turned.result _ c.ranges.magnitude.fits c.bits_of.ensures c.turned.ensures
+    sym (ends c.args.negative c.args.magnitude c.bits_of.result c.invert_if.result _ c.ranges.magnitude.fits c.bits_of.ensures c.invert_if.ensures
     c.behind-buffer.ensures)
     ∙ is_those c.args.negative c.args.magnitude c.ranges.magnitude.fits
 
 pub returns-clause-integer : goal.returns-clause-integer
 returns-clause-integer c =
     subst (AreInteger (complement_if c.args.negative c.args.magnitude))
-    (ends c.args.negative c.args.magnitude c.bits_of.result c.turned.result _ c.ranges.magnitude.fits c.bits_of.ensures c.turned.ensures
+    (ends c.args.negative c.args.magnitude c.bits_of.result c.invert_if.result _ c.ranges.magnitude.fits c.bits_of.ensures c.invert_if.ensures
     c.behind-buffer.ensures)
     (told_by_sign c.args.negative c.args.magnitude c.ranges.magnitude.fits)
