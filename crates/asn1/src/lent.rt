@@ -1,6 +1,6 @@
 //! Octets that are lent.
 ghost use Rattle.bcder.specs.x690.OctetString.{octet_string_tag};
-ghost use Rattle.std.specs.Prelude.{◌≡◌, ℕ, List, false, not, refl};
+ghost use Rattle.std.specs.Prelude.{◌≡◌, ℕ, List, Err, false, not, refl};
 ghost use Rattle.bcder.specs.calls.Readers.{ReadOctets};
 ghost use Rattle.bcder.specs.calls.StringMeaning.{is_cut};
 ghost use Rattle.bcder.specs.calls.Views.{octets_before, Moved, MovedOctets};
@@ -75,16 +75,18 @@ pub(crate) fn is_piece(mode: Mode, len: usize) -> bool
     }
 }
 
-/// Refuses octets that should have been cut. All of them have to come, and none is taken.
+/// Returns why octets that should have been cut are refused. All of them have to come, and none is
+/// taken.
 #[cold]
 #[inline(never)]
-fn refuse_piece<S: LendingSource>(
-    octets: &mut Primitive<'_, S>,
-) -> Result<S::Lent, DecodeError<S::Error>>
+fn refuse_piece<S: LendingSource>(octets: &mut Primitive<'_, S>) -> DecodeError<S::Error>
     ensures moves { MovedOctets S.stream octets }
-    ensures read { ReadOctets S.stream octets (λ _ _. ⊥) result }
+    ensures read { ReadOctets S.stream octets (λ _ (_ : S.Lent). ⊥) (Err result) }
 {
-    octets.with_slice_all(|_| Err(ContentError::from_static("a string that is to be cut")))
+    match octets.slice_all(|_| ()) {
+        Ok(()) => octets.content_err(ContentError::from_static("a string that is to be cut")),
+        Err(error) => error,
+    }
 }
 
 /// Takes all contents octets, lent, as those of a string in one piece.
@@ -99,7 +101,7 @@ fn lend_piece<S: LendingSource>(
     if is_piece(octets.mode(), octets.remaining()) {
         octets.take_lent()
     } else {
-        refuse_piece(octets)
+        Err(refuse_piece(octets))
     }
 }
 
