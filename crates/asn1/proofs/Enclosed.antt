@@ -27,7 +27,7 @@ use Rattle.asn1.proofs.Typed.{next_typed, typed_header}
 
 -- ---- a closure that reads fields, and what the take around it does with what it leaves
 
--- the same of content as clauses see it
+-- a borrow of content as clauses see it
 seen : {C : Type 0} → (C → Reading) → MutBor C → Reading → MutBor Reading
 seen view p i = record { ref_ptr = p.ref_ptr; ghost_name = p.ghost_name; now = i }
 

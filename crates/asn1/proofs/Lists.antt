@@ -150,7 +150,7 @@ module _ {T X : Type 0} {lacks : Bool} (Tags : Tag → Type 0) (Means : Mode →
     marked = n.marked ∙ r.marked;
   }
 
--- the same of a vector
+-- a list that was read as fields is one as a vector
 pub list_as_fields : {T X : Type 0} {lacks : Bool} (Tags : Tag → Type 0) (Means : Mode → Tree → T → Type 0) (c d : Reading)
     (r : Result (Vec T Global) (DecodeError X))
     → ReadsFields (AreList Tags (Means c.mode)) lacks c (items_of r) d

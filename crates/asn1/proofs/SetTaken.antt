@@ -212,7 +212,7 @@ pub joined_octets : (mode : Mode) (ks : List Kept) (k : Kept) → HoldsMeant (Jo
     → k.octets ≡ flat (octets_of_each ks)
 joined_octets mode ks k h = ap (λ (z : Kept). z.octets) h.holds ∙ flat_of mode ks h.what h.meant.0
 
--- the same error of another source
+-- an error of one source, given as one of another, refuses for the same reason
 pub members_converted : {T X : Type 0} {lacks : Bool} (mode : Mode) (Takes : Trees → T → Trees → Type 0) (s : Stream)
     (e : DecodeError Infallible) (f : DecodeError X)
     → cause_of f ≡ cause_of e → RefusesFieldsOf mode Takes lacks s e → RefusesMembers mode Takes s.rest f

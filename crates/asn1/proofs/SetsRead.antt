@@ -299,7 +299,7 @@ never_of_source (Source e) h = absurd (none_of_it e)
 never_of_source (Content error pos) h = cc
 never_of_source NoMemory h = cc
 
--- the same error of another source
+-- an error of one source, given as one of another, refuses for the same reason
 pub converted : {T X : Type 0} {lacks : Bool} (mode : Mode) (Tags : Tag → Type 0) (Means : Tree → T → Type 0) (s : Stream)
     (e : DecodeError Infallible) (f : DecodeError X)
     → cause_of f ≡ cause_of e → RefusesAll mode Tags Means lacks s e → RefusesOctets mode Tags Means s.rest f

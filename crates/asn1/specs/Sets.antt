@@ -70,7 +70,7 @@ place_of_value None = 0
 abbrev pub kept_place : Kept → ℕ
 kept_place k = place_of_value (kept_value k)
 
--- the same among those of a set
+-- the place of the tag of a kept value among those of a set
 abbrev pub kept_place_in : (ℕ → ℕ) → Kept → ℕ
 kept_place_in Place k = Place (kept_place k)
 

@@ -111,7 +111,7 @@ module _ {E : Type 0} where
   total f [] = 0
   total f (e ∷ es) = f e + total f es
 
-  -- the same members, each as often
+  -- each member of one list is one of the other, as often
   pub record Same (es fs : List E) : Type 0 where
     pub totals : (f : E → ℕ) → total f es ≡ total f fs
 

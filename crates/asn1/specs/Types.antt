@@ -103,7 +103,7 @@ module _ {T : Type 0} (Tags : Tag → Type 0) (Means : Tree → T → Type 0) wh
       pub mode : d.mode ≡ c.mode
       pub marked : d.marked ≡ c.marked
 
--- the same of a parameter, from entry to exit
+-- ---- of a parameter, from entry to exit
 abbrev pub TookNextTyped : {S T X : Type 0} → (S → Stream) → Both (MutBor (Constructed S)) (MutBor (Constructed S)) → (Tag → Type 0)
     → (Mode → Tree → T → Type 0) → Bool → Result (Option T) (DecodeError X) → Type 0
 TookNextTyped stream c Tags Means may_lack r =
@@ -173,7 +173,7 @@ module _ {T : Type 0} (Takes : Trees → T → Trees → Type 0) where
       pub mode : d.mode ≡ c.mode
       pub marked : d.marked ≡ c.marked
 
--- the same of a parameter, from entry to exit
+-- ---- of a parameter, from entry to exit
 abbrev pub TookFields : {S T X : Type 0} → (S → Stream) → Both (MutBor (Constructed S)) (MutBor (Constructed S))
     → (Mode → Trees → T → Trees → Type 0) → Bool → Result T (DecodeError X) → Type 0
 TookFields stream c Takes may_lack r = ReadsFields (Takes (before stream c).mode) may_lack (before stream c) r (after stream c)
