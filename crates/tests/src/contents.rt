@@ -158,6 +158,23 @@ fn refuse_second<S: Source>(cons: &mut Constructed<'_, S>) -> Result<bool, Decod
     Err(cons.next_err(ContentError::from_static("no second")))
 }
 
+impl Way {
+    /// Makes the content of a SEQUENCE fail, or refuses it.
+    fn inside<S: Source>(
+        &mut self,
+        alloc: Global,
+        cons: &mut Constructed<'_, S>,
+    ) -> Result<bool, DecodeError<S::Error>>
+        ensures { Moved S.stream cons }
+    {
+        match self {
+            Way::FailBehindOne(nothing) => fail_behind_one(alloc, cons, nothing),
+            Way::FailBehindAll => fail_behind_all(cons),
+            _ => refuse_second(cons),
+        }
+    }
+}
+
 impl Look for Way {
     fn look<S: Source>(
         &mut self,
@@ -172,12 +189,8 @@ impl Look for Way {
                 };
                 forms.look(cons)
             }
-            Way::FailBehindOne(nothing) => {
-                cons.take_sequence(|inner| fail_behind_one(alloc, inner, nothing))
-            }
-            Way::FailBehindAll => cons.take_sequence(|inner| fail_behind_all(inner)),
-            Way::RefuseSecond => cons.take_sequence(|inner| refuse_second(inner)),
             Way::Enter(right) => enter(alloc, cons, right),
+            _ => cons.take_sequence(|inner| self.inside(alloc, inner)),
         }
     }
 

@@ -304,8 +304,8 @@ fn check_ref<P: PrimitiveContent>(
 }
 
 /// Asserts what octets do as a primitive value.
-fn check_octets(case: &Case<'_, impl Abort>, octets: Primitive<&[u8]>, wanted: [Wanted<'_>; 3]) {
-    are_wanted(case, &octets, wanted);
+fn check_octets(case: &Case<'_, impl Abort>, octets: &Primitive<&[u8]>, wanted: [Wanted<'_>; 3]) {
+    are_wanted(case, octets, wanted);
 }
 
 /// Checks primitive values.
@@ -408,13 +408,13 @@ fn long_octets_in_cer(rt: HostRuntime) {
     let mut short = done(&rt, [0x04, 0x82, 0x03, 0xE8].to_vec(rt.alloc()));
     done(&rt, short.extend_from_slice(&zeros[..1000]));
     let short = [Wanted::Any, Wanted::Octets(&short), Wanted::Any];
-    check_octets(&case, (&zeros[..1000]).encode(), short);
+    check_octets(&case, &(&zeros[..1000]).encode(), short);
     let mut whole = done(&rt, [0x04, 0x82, 0x03, 0xE9].to_vec(rt.alloc()));
     done(&rt, whole.extend_from_slice(&zeros));
     let refused = Wanted::Refused(EncodeError::LongCerPrimitive);
     let whole = Wanted::Octets(&whole);
-    check_octets(&case, long.encode(), [whole, refused, whole]);
-    check_octets(&case, long.encode_as(Tag::END_OF_VALUE), [MARKER; 3]);
+    check_octets(&case, &long.encode(), [whole, refused, whole]);
+    check_octets(&case, &long.encode_as(Tag::END_OF_VALUE), [MARKER; 3]);
 }
 
 /// A target that takes nothing.

@@ -61,6 +61,16 @@ pub trait Look: Copy {
     }
 }
 
+/// Looks at what stands at the start of a source.
+fn look_at<L: Look, S: Source>(
+    alloc: Global,
+    mode: Mode,
+    source: &mut S,
+    looker: &mut L,
+) -> Result<bool, DecodeError<S::Error>> {
+    mode.decode_lent(source, |cons| looker.look(alloc, cons))
+}
+
 /// What reading has to come to.
 #[derive(Clone, Copy)]
 pub enum Wanted<'a> {
@@ -111,11 +121,7 @@ impl<L: Look> Row for Line<'_, L> {
     fn check<S: Source + Drop, R: Abort>(&self, case: &Case<'_, R>, source: S) {
         let mut source = source;
         let mut looker = self.2;
-        let alloc = case.alloc;
-        match self
-            .0
-            .decode_lent(&mut source, |cons| looker.look(alloc, cons))
-        {
+        match look_at(case.alloc, self.0, &mut source, &mut looker) {
             Err(error) => check_refusal(case, error, self.3),
             Ok(right) => match self.3 {
                 Wanted::Right => case.holds(right),
@@ -140,18 +146,20 @@ pub fn check_failing<L: Look>(rt: &impl Abort, alloc: Global, row: usize, line: 
         let case = Case::new(rt, alloc, row);
         let mut source = failing_sip(rt, alloc, line.1, failing);
         let mut looker = line.2;
-        let found = line
-            .0
-            .decode_lent(&mut source, |cons| looker.look(alloc, cons));
+        let found = look_at(alloc, line.0, &mut source, &mut looker);
         let failed = source.faults() == 1;
         let refused = matches!(line.3, Wanted::Refused);
+        let fails = matches!(line.3, Wanted::Fails);
         case.holds(match found {
-            _ if matches!(line.3, Wanted::Fails) => found.is_err() == failed,
-            Ok(right) => !failed && right && !refused,
-            Err(error) => match why(error) {
-                Refusal::Source => failed,
-                refusal => !failed && refused && refusal == Refusal::Content,
-            },
+            Ok(right) => right && !failed && !refused,
+            Err(error) => {
+                let refusal = why(error);
+                if fails || refusal == Refusal::Source {
+                    failed
+                } else {
+                    refused && !failed && refusal == Refusal::Content
+                }
+            }
         });
         case.holds(looker.noted());
         case.holds(failing > 1 || source.faults() == 1);

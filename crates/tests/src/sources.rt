@@ -329,12 +329,15 @@ fn positions(rt: HostRuntime) {
 /// Checks a slice of eight digits from a position, of which five are passed over.
 fn check_slice(
     case: &Case<'_, impl Abort>,
-    slice: SliceSource<'_>,
+    start: Option<Pos>,
     begin: &'static str,
     end: &'static str,
     error: &str,
 ) {
-    let mut slice = slice;
+    let mut slice = match start {
+        None => SliceSource::new(b"12345678"),
+        Some(start) => SliceSource::with_offset(b"12345678", start),
+    };
     follow(
         case,
         &mut slice,
@@ -350,16 +353,14 @@ fn check_slice(
 #[test]
 fn slices(rt: HostRuntime) {
     let case = Case::new(&rt, rt.alloc(), 0);
-    let digits = b"12345678";
+    check_slice(&case, None, "0", "5", "no (at position 5)");
     check_slice(
         &case,
-        SliceSource::new(digits),
-        "0",
-        "5",
-        "no (at position 5)",
+        Some(Pos::from(100)),
+        "100",
+        "105",
+        "no (at position 105)",
     );
-    let slice = SliceSource::with_offset(digits, Pos::from(100));
-    check_slice(&case, slice, "100", "105", "no (at position 105)");
     let last = SliceSource::with_offset(b"1", Pos::from(usize::MAX));
     case.shows(&last.pos(), "18446744073709551615");
 }

@@ -1,13 +1,13 @@
 //! Tests of bit strings: worked values, as they are read and written.
 #![tactic(auto, using(bcder::specs::laws::Moved::steps))]
 
-ghost use Rattle.bcder.specs.calls.Views.{Moved};
+ghost use Rattle.bcder.specs.calls.Views.{Moved, MovedContent};
 
 use crate::asserts::Case;
 use crate::encodes::{self, are_wanted};
 use crate::over::{check_over, shared};
 use crate::reading::{Line, Look, Wanted};
-use bcder::decode::{Constructed, DecodeError, Source};
+use bcder::decode::{Constructed, Content, DecodeError, Source};
 use bcder::encode::{EncodeError, Primitive, PrimitiveContent};
 use bcder::string::BitSliceEncoder;
 use bcder::{BitString, Mode, Tag};
@@ -28,7 +28,24 @@ enum Way {
 
 const WAYS: [Way; 4] = [Way::Take, Way::FromContent, Way::Skip, Way::SkipContent];
 
-/// Reads the next value, or returns `None` if it is skipped.
+/// Reads content, or skips it and returns `None`.
+fn read_content<S: Source>(
+    alloc: Global,
+    content: &mut Content<'_, S>,
+    way: Way,
+) -> Result<Option<BitString>, DecodeError<S::Error>>
+    ensures { MovedContent S.stream content }
+{
+    match way {
+        Way::FromContent => Ok(Some(BitString::from_content(alloc, content)?)),
+        _ => {
+            BitString::skip_content(content)?;
+            Ok(None)
+        }
+    }
+}
+
+/// Reads the next value, or skips it and returns `None`.
 fn read<S: Source>(
     alloc: Global,
     cons: &mut Constructed<'_, S>,
@@ -38,18 +55,11 @@ fn read<S: Source>(
 {
     match way {
         Way::Take => Ok(Some(BitString::take_from(alloc, cons)?)),
-        Way::FromContent => Ok(Some(cons.take_value_if(
-            Tag::BIT_STRING,
-            |content| BitString::from_content(alloc, content),
-        )?)),
         Way::Skip => {
             BitString::skip_in(cons)?;
             Ok(None)
         }
-        Way::SkipContent => {
-            cons.take_value_if(Tag::BIT_STRING, |content| BitString::skip_content(content))?;
-            Ok(None)
-        }
+        _ => cons.take_value_if(Tag::BIT_STRING, |content| read_content(alloc, content, way)),
     }
 }
 
@@ -273,10 +283,10 @@ fn equal_bit_strings(rt: HostRuntime) {
 /// Asserts what octets do as a bit string.
 fn check_slice(
     case: &Case<'_, impl Abort>,
-    bits: BitSliceEncoder<&[u8]>,
+    bits: &BitSliceEncoder<&[u8]>,
     wanted: [encodes::Wanted<'_>; 3],
 ) {
-    are_wanted(case, &bits, wanted);
+    are_wanted(case, bits, wanted);
 }
 
 /// Asserts what a bit string does that is handed over.
@@ -287,10 +297,10 @@ fn check_owned(case: &Case<'_, impl Abort>, bits: BitString, basic: &[u8], stric
 /// Asserts what a bit string does that is lent.
 fn check_lent(
     case: &Case<'_, impl Abort>,
-    bits: Primitive<&BitString>,
+    bits: &Primitive<&BitString>,
     wanted: [encodes::Wanted<'_>; 3],
 ) {
-    are_wanted(case, &bits, wanted);
+    are_wanted(case, bits, wanted);
 }
 
 /// What is written in BER, and in CER and DER.
@@ -312,7 +322,7 @@ fn unused_bits_as_they_are_written(rt: HostRuntime) {
     let (basic, strict) = ([0x03, 0x02, 0x04, 0xFF], [0x03, 0x02, 0x04, 0xF0]);
     check_slice(
         &case,
-        BitString::encode_slice(ones, 4),
+        &BitString::encode_slice(ones, 4),
         written(&basic, &strict),
     );
     check_owned(&case, bits_of(&case, &basic), &basic, &strict);
@@ -325,11 +335,11 @@ fn bit_strings_of_several_octets(rt: HostRuntime) {
     let slice = BitString::encode_slice_as(octets, 4, Tag::CTX_2);
     let strict = [0x82, 0x07, 0x04, 0x0A, 0x3B, 0x5F, 0x29, 0x1C, 0xD0];
     let basic = [0x82, 0x07, 0x04, 0x0A, 0x3B, 0x5F, 0x29, 0x1C, 0xDF];
-    check_slice(&case, slice, written(&basic, &strict));
+    check_slice(&case, &slice, written(&basic, &strict));
     let none = BitString::encode_slice(&octets[..0], 0);
     check_slice(
         &case,
-        none,
+        &none,
         written(&[0x03, 0x01, 0x00], &[0x03, 0x01, 0x00]),
     );
 }
@@ -348,11 +358,11 @@ fn long_slices_in_cer(rt: HostRuntime) {
     let wanted = behind(&case, &[0x03, 0x82, 0x03, 0xE8, 0x00], &zeros[..999]);
     case.same(wanted.len(), 1004);
     let short = BitString::encode_slice(&zeros[..999], 0);
-    check_slice(&case, short, written(&wanted, &wanted));
+    check_slice(&case, &short, written(&wanted, &wanted));
     let long = BitString::encode_slice(&zeros[..], 0);
-    check_slice(&case, long, refused(EncodeError::LongCerBitString));
+    check_slice(&case, &long, refused(EncodeError::LongCerBitString));
     let marker = BitString::encode_slice_as(&zeros[..], 0, Tag::END_OF_VALUE);
-    check_slice(&case, marker, refused(EncodeError::EndOfValueTag));
+    check_slice(&case, &marker, refused(EncodeError::EndOfValueTag));
 }
 
 #[test]
@@ -365,9 +375,9 @@ fn long_bit_strings_in_cer(rt: HostRuntime) {
     let long = zeros_of(&case, &zeros, false);
     let whole = encodes::Wanted::Octets(&basic);
     let in_cer = encodes::Wanted::Refused(EncodeError::LongCerPrimitive);
-    check_lent(&case, long.encode_ref(), [whole, in_cer, whole]);
+    check_lent(&case, &long.encode_ref(), [whole, in_cer, whole]);
     let marker = long.encode_ref_as(Tag::END_OF_VALUE);
-    check_lent(&case, marker, refused(EncodeError::EndOfValueTag));
+    check_lent(&case, &marker, refused(EncodeError::EndOfValueTag));
 }
 
 /// Checks contents octets without a header.

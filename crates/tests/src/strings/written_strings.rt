@@ -122,48 +122,48 @@ const SEGMENTED: [(usize, &[u8], &[(&[u8], usize)]); 9] = [
 /// Asserts what a string does that is lent.
 fn check_lent(
     case: &Case<'_, impl Abort>,
-    string: OctetStringEncoder<&OctetString>,
+    string: &OctetStringEncoder<&OctetString>,
     wanted: [Wanted<'_>; 3],
 ) {
-    are_wanted(case, &string, wanted);
+    are_wanted(case, string, wanted);
 }
 
 /// Asserts what a string does that is handed over.
 fn check_owned(
     case: &Case<'_, impl Abort>,
-    string: OctetStringEncoder<OctetString>,
+    string: &OctetStringEncoder<OctetString>,
     wanted: [Wanted<'_>; 3],
 ) {
-    are_wanted(case, &string, wanted);
+    are_wanted(case, string, wanted);
 }
 
 /// Asserts what octets do as a string.
 fn check_slice(
     case: &Case<'_, impl Abort>,
-    octets: OctetSliceEncoder<&[u8]>,
+    octets: &OctetSliceEncoder<&[u8]>,
     wanted: [Wanted<'_>; 3],
 ) {
-    are_wanted(case, &octets, wanted);
+    are_wanted(case, octets, wanted);
 }
 
 /// Checks octets, and strings of them, however these were cut. They are written in segments in CER
 /// and in one piece in DER, as octets are in BER. What is written in CER is read, and written back
 /// unchanged.
-fn check_segments(case: &Case<'_, impl Abort>, octets: &[u8], cer: &[u8], der: &[u8]) {
+fn check_segments<'x>(case: &Case<'_, impl Abort>, octets: &[u8], cer: &'x [u8], der: &'x [u8]) {
     let (pieces, piece) = (Wanted::Octets(cer), Wanted::Octets(der));
     let strict = [Wanted::Any, pieces, piece];
     check_slice(
         case,
-        OctetString::encode_slice(octets),
+        &OctetString::encode_slice(octets),
         [piece, pieces, piece],
     );
-    check_lent(case, whole(case, octets).encode_ref(), strict);
+    check_lent(case, &whole(case, octets).encode_ref(), strict);
     for each in [7, 300, 999, 1000, 1001, 3000] {
-        check_lent(case, cut(case, octets, each).encode_ref(), strict);
+        check_lent(case, &cut(case, octets, each).encode_ref(), strict);
     }
     let string = read_in(case, Mode::Cer, cer);
     case.holds(string.eq_octets(octets));
-    check_owned(case, string.encode(), [Wanted::Any, pieces, Wanted::Any]);
+    check_owned(case, &string.encode(), [Wanted::Any, pieces, Wanted::Any]);
 }
 
 #[test]
@@ -230,10 +230,10 @@ fn strings_as_they_came(rt: HostRuntime) {
         let case = Case::new(&rt, rt.alloc(), row);
         let string = read(&case, *octets);
         let (cer, der) = (Wanted::Octets(*cer), Wanted::Octets(*der));
-        check_lent(&case, string.encode_ref(), [Wanted::Any, cer, der]);
+        check_lent(&case, &string.encode_ref(), [Wanted::Any, cer, der]);
         check_owned(
             &case,
-            string.encode(),
+            &string.encode(),
             [Wanted::Octets(*ber), Wanted::Any, Wanted::Any],
         );
     }
@@ -248,13 +248,13 @@ fn strings_under_another_tag(rt: HostRuntime) {
     let strict = Wanted::Octets(&[0x80, 0x01, 0x61]);
     check_lent(
         &case,
-        string.encode_ref_as(Tag::CTX_0),
+        &string.encode_ref_as(Tag::CTX_0),
         [basic, strict, strict],
     );
     let strict = Wanted::Octets(&[0x81, 0x01, 0x61]);
     check_owned(
         &case,
-        string.encode_as(Tag::CTX_1),
+        &string.encode_as(Tag::CTX_1),
         [Wanted::Any, strict, Wanted::Any],
     );
 }
@@ -309,9 +309,9 @@ fn strings_with_the_tag_of_the_end(rt: HostRuntime) {
     let octets = octets_of(&case, 1001);
     let refused = [Wanted::Refused(EncodeError::EndOfValueTag); 3];
     let slice = OctetString::encode_slice_as(octets.as_slice(), Tag::END_OF_VALUE);
-    check_slice(&case, slice, refused);
+    check_slice(&case, &slice, refused);
     let string = cut(&case, octets.as_slice(), 7).encode_as(Tag::END_OF_VALUE);
-    check_owned(&case, string, refused);
+    check_owned(&case, &string, refused);
 }
 
 #[test]
