@@ -326,23 +326,25 @@ fn positions(rt: HostRuntime) {
     same(&rt, usize::from(Pos::from(3) + Pos::from(4)), 7);
 }
 
-/// Checks a slice of eight digits from a position, of which five are passed over.
+/// Checks the positions of a slice of eight digits, of which five are passed over, and that of an
+/// error behind them.
 fn check_slice(
     case: &Case<'_, impl Abort>,
     start: Option<Pos>,
-    begin: &'static str,
-    end: &'static str,
+    at: [&'static str; 3],
     error: &str,
 ) {
     let mut slice = match start {
         None => SliceSource::new(b"12345678"),
         Some(start) => SliceSource::with_offset(b"12345678", start),
     };
-    follow(
-        case,
-        &mut slice,
-        &[Step::At(begin), Step::Request(3, Some(8), 3)],
-    );
+    let [begin, middle, end] = at;
+    let front = [
+        Step::At(begin),
+        Step::Request(3, Some(8), 3),
+        Step::At(middle),
+    ];
+    follow(case, &mut slice, &front);
     case.are(slice.len(), 5);
     case.same(slice.split_to(2), b"45".as_slice());
     follow(case, &mut slice, &[Step::At(end), Step::Slice(b"678")]);
@@ -353,14 +355,9 @@ fn check_slice(
 #[test]
 fn slices(rt: HostRuntime) {
     let case = Case::new(&rt, rt.alloc(), 0);
-    check_slice(&case, None, "0", "5", "no (at position 5)");
-    check_slice(
-        &case,
-        Some(Pos::from(100)),
-        "100",
-        "105",
-        "no (at position 105)",
-    );
+    check_slice(&case, None, ["0", "3", "5"], "no (at position 5)");
+    let at = ["100", "103", "105"];
+    check_slice(&case, Some(Pos::from(100)), at, "no (at position 105)");
     let last = SliceSource::with_offset(b"1", Pos::from(usize::MAX));
     case.shows(&last.pos(), "18446744073709551615");
 }

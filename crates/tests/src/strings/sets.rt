@@ -3,13 +3,14 @@ use crate::asserts::Case;
 use crate::over::{shared, sip};
 use bcder::decode::{SliceSource, Source};
 use bcder::string::{
-    CharSet, Ia5CharSet, Ia5CharSet as Latin1, NumericCharSet, OctetStringOctets, PrintableCharSet,
-    RestrictedString, StringError, Utf8CharSet,
+    CharSet, Ia5CharSet, NumericCharSet, OctetStringOctets, PrintableCharSet, RestrictedString,
+    StringError, Utf8CharSet,
 };
 use bcder::{Mode, OctetString};
 use bytes::Bytes;
 use std::alloc::Global;
 use std::process::Abort;
+use user::latin_1::Latin1;
 
 /// A set.
 #[derive(Clone, Copy)]
