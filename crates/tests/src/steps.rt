@@ -119,12 +119,12 @@ fn takes_all<S: Source>(
     source: &mut LimitedSource<S>,
     wanted: Result<&[u8], Refusal>,
 ) -> bool {
-    if source.limit().is_none() {
-        return false;
-    }
-    match (refusal(source.take_all(case.alloc)), wanted) {
-        (Ok(taken), Ok(octets)) => taken.as_slice() == octets,
-        (taken, wanted) => taken.err() == wanted.err(),
+    match source.limit() {
+        Some(_) => match (refusal(source.take_all(case.alloc)), wanted) {
+            (Ok(taken), Ok(octets)) => taken.as_slice() == octets,
+            (taken, wanted) => taken.err() == wanted.err(),
+        },
+        None => false,
     }
 }
 
@@ -141,9 +141,10 @@ fn limit_answers<S: Source>(
             source.set_limit(limit);
             true
         }
-        Limit::SkipAll(wanted) => {
-            source.limit().is_some() && refusal(source.skip_all()) == wanted
-        }
+        Limit::SkipAll(wanted) => match source.limit() {
+            Some(_) => refusal(source.skip_all()) == wanted,
+            None => false,
+        },
         Limit::TakeAll(wanted) => takes_all(case, source, wanted),
         Limit::Exhausted(wanted) => refusal(source.exhausted()) == wanted,
     }
