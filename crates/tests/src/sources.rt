@@ -23,7 +23,17 @@ use support::sip::SipError;
 fn check_nested<S: Source>(case: &Case<'_, impl Abort>, inner: &mut LimitedSource<S>) {
     inner.set_limit(Some(4));
     let mut view = LimitedSource::new(CaptureSource::new(inner));
-    follow_limit(case, &mut view, &NESTED);
+    view.set_limit(Some(5));
+    case.same(case.done(view.request(9)), 4);
+    case.holds(view.take_all(case.alloc).is_err());
+    case.same(view.limit(), Some(5));
+    case.same(case.done(view.request(9)), 4);
+    view.set_limit(Some(4));
+    case.same(
+        case.done(view.take_all(case.alloc)).as_slice(),
+        b"1234".as_slice(),
+    );
+    case.same(view.limit(), Some(0));
     let mut capture = view.unwrap();
     case.done(capture.request(0));
     case.same(
@@ -31,18 +41,6 @@ fn check_nested<S: Source>(case: &Case<'_, impl Abort>, inner: &mut LimitedSourc
         b"1234".as_slice(),
     );
 }
-
-/// The calls on the outermost source. There are four octets up to the limit of the innermost.
-const NESTED: [Limit; 8] = [
-    Limit::Set(Some(5)),
-    Limit::Of(Step::Request(9, Some(4), 0)),
-    Limit::TakeAll(Err(Refusal::Content)),
-    Limit::Is(Some(5)),
-    Limit::Of(Step::Request(9, Some(4), 0)),
-    Limit::Set(Some(4)),
-    Limit::TakeAll(Ok(b"1234")),
-    Limit::Is(Some(0)),
-];
 
 fn check_capture<S: Source>(case: &Case<'_, impl Abort>, source: &mut S) {
     let mut capture = CaptureSource::new(source);
