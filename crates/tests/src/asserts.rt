@@ -84,6 +84,11 @@ impl<'a, R: Abort> Case<'a, R> {
         assert!(self.rt; fact, "row {}, over {}", self.row, self.over);
     }
 
+    /// Asserts that `fact` is true of the step with this number.
+    pub fn at(&self, step: usize, fact: bool) {
+        assert!(self.rt; fact, "row {}, over {}, step {}", self.row, self.over, step);
+    }
+
     /// Asserts that a number is the wanted one, for the proof too.
     pub fn are(&self, found: usize, wanted: usize)
         ensures { found ≡ wanted }

@@ -5,31 +5,13 @@
 ghost use Rattle.bcder.specs.calls.Views.{Moved};
 
 use crate::asserts::{Case, holds};
-use crate::encodes::{refuses, writes};
-use crate::reading::{All, InSequence, Reader, read};
+use crate::encodes::{Wanted, are_wanted};
 use bcder::captured::CapturedBuilder;
 use bcder::decode::{Constructed as Content, DecodeError, IntoSource, SliceSource, Source};
 use bcder::encode::{Constructed, EncodeError, Nothing, PrimitiveContent, Values, sequence};
 use bcder::{Captured, Mode, NoMemory, Tag};
 use std::alloc::Global;
 use std::process::Abort;
-
-/// Skips a value, and captures the next.
-#[derive(Clone, Copy)]
-struct Second;
-
-impl Reader for Second {
-    type Value = Captured;
-
-    fn read<S: Source>(
-        &mut self,
-        alloc: Global,
-        cons: &mut Content<'_, S>,
-    ) -> Result<Captured, DecodeError<S::Error>> {
-        cons.skip_one(alloc)?;
-        cons.capture_one(alloc)
-    }
-}
 
 /// Skips a value in BER.
 fn pass_in_ber<S: Source>(
@@ -43,19 +25,37 @@ fn pass_in_ber<S: Source>(
     Ok(())
 }
 
-/// Captures what is skipped in BER.
+/// What is captured.
 #[derive(Clone, Copy)]
-struct InBer;
+pub enum Part {
+    All,
 
-impl Reader for InBer {
-    type Value = Captured;
+    /// What a SEQUENCE holds.
+    Inside,
 
-    fn read<S: Source>(
-        &mut self,
-        alloc: Global,
-        cons: &mut Content<'_, S>,
-    ) -> Result<Captured, DecodeError<S::Error>> {
-        cons.capture(alloc, |inner| pass_in_ber(inner, alloc))
+    /// What is skipped in BER.
+    InBer,
+
+    /// What follows a value.
+    Second,
+}
+
+/// Captures a part of the content.
+fn capture_part<S: Source>(
+    cons: &mut Content<'_, S>,
+    alloc: Global,
+    part: Part,
+) -> Result<Captured, DecodeError<S::Error>>
+    ensures { Moved S.stream cons }
+{
+    match part {
+        Part::All => cons.capture_all(alloc),
+        Part::Inside => cons.take_sequence(|inner| inner.capture_all(alloc)),
+        Part::InBer => cons.capture(alloc, |inner| pass_in_ber(inner, alloc)),
+        Part::Second => {
+            cons.skip_one(alloc)?;
+            cons.capture_one(alloc)
+        }
     }
 }
 
@@ -165,9 +165,11 @@ const LINES: [Line; 20] = [
     (Made::Kept, &[0x02, 0x01, 0x01], DER, "0"),
 ];
 
-/// Captures all values of the octets in a mode.
-fn capture(case: &Case<'_, impl Abort>, octets: &[u8], mode: Mode) -> Captured {
-    case.done(read(case.alloc, mode, &mut SliceSource::new(octets), &mut All))
+/// Captures a part of the octets in a mode.
+pub fn capture(case: &Case<'_, impl Abort>, mode: Mode, octets: &[u8], part: Part) -> Captured {
+    let mut source = SliceSource::new(octets);
+    let alloc = case.alloc;
+    case.done(mode.decode_lent(&mut source, |cons| capture_part(cons, alloc, part)))
 }
 
 /// A SEQUENCE of an INTEGER; an empty OCTET STRING and an INTEGER; and an empty SEQUENCE.
@@ -177,26 +179,14 @@ const BEHIND: &[u8] = &[0x04, 0x00, 0x02, 0x01, 0x05];
 
 const OPEN: &[u8] = &[0x30, 0x80, 0x00, 0x00];
 
-/// Captures values of octets that hold more.
-fn capture_part(case: &Case<'_, impl Abort>, made: Made) -> Captured {
-    let alloc = case.alloc;
-    let found = match made {
-        Made::Inside => {
-            read(
-                alloc,
-                Mode::Ber,
-                &mut SliceSource::new(HELD),
-                &mut InSequence(All),
-            )
-        }
-        Made::InBer => read(alloc, Mode::Der, &mut SliceSource::new(OPEN), &mut InBer),
-        _ => read(alloc, Mode::Der, &mut SliceSource::new(BEHIND), &mut Second),
-    };
-    case.done(found)
+/// Copies captured values.
+fn copy(case: &Case<'_, impl Abort>) -> Captured {
+    case.done(capture(case, Mode::Der, BEHIND, Part::Second).clone())
 }
 
 /// Builds on captured values.
-fn build_on(case: &Case<'_, impl Abort>, captured: Captured, more: bool) -> Captured {
+fn build_on(case: &Case<'_, impl Abort>, more: bool) -> Captured {
+    let captured = capture(case, Mode::Der, BEHIND, Part::Second);
     let mut builder = case.done(captured.into_builder(case.alloc));
     if more {
         case.done(builder.extend(6u8.encode()));
@@ -220,9 +210,9 @@ fn encode(case: &Case<'_, impl Abort>, made: Made) -> Captured {
 /// Captures an INTEGER, nothing, and NULL, and then all of them, inside a SEQUENCE or not.
 fn gather(case: &Case<'_, impl Abort>, made: Made) -> Captured {
     let mut list = Vec::new(case.alloc);
-    case.done(list.push(capture(case, FIVE, Mode::Der)));
+    case.done(list.push(capture(case, Mode::Der, FIVE, Part::All)));
     case.done(list.push(Captured::empty(case.alloc, Mode::Der)));
-    case.done(list.push(capture(case, &[0x05, 0x00], Mode::Der)));
+    case.done(list.push(capture(case, Mode::Der, &[0x05, 0x00], Part::All)));
     let found = match made {
         Made::Listed => sequence(list.as_slice()).to_captured(case.alloc, Mode::Der),
         _ => list.to_captured(case.alloc, Mode::Ber),
@@ -249,7 +239,7 @@ fn build_with_room(case: &Case<'_, impl Abort>) -> Captured {
 
 /// Builds of one value, where refused ones change nothing.
 fn keep(case: &Case<'_, impl Abort>) -> Captured {
-    let basic = capture(case, FIVE, Mode::Ber);
+    let basic = capture(case, Mode::Ber, FIVE, Part::All);
     let mut builder = Captured::builder(case.alloc, Mode::Der);
     case.done(builder.extend(1u8.encode()));
     case.same(builder.extend(&basic), Err(EncodeError::CapturedMode));
@@ -263,12 +253,14 @@ fn keep(case: &Case<'_, impl Abort>) -> Captured {
 /// Makes the captured values of a line.
 fn make(case: &Case<'_, impl Abort>, made: Made, octets: &[u8]) -> Captured {
     match made {
-        Made::All(mode) => capture(case, octets, mode),
+        Made::All(mode) => capture(case, mode, octets, Part::All),
         Made::Empty => Captured::empty(case.alloc, Mode::Der),
-        Made::Inside | Made::InBer | Made::Second => capture_part(case, made),
-        Made::Copy => case.done(capture_part(case, made).clone()),
-        Made::More => build_on(case, capture_part(case, made), true),
-        Made::Again => build_on(case, capture_part(case, made), false),
+        Made::Inside => capture(case, Mode::Ber, HELD, Part::Inside),
+        Made::InBer => capture(case, Mode::Der, OPEN, Part::InBer),
+        Made::Second => capture(case, Mode::Der, BEHIND, Part::Second),
+        Made::Copy => copy(case),
+        Made::More => build_on(case, true),
+        Made::Again => build_on(case, false),
         Made::Listed | Made::Several => gather(case, made),
         Made::Built => build(case),
         Made::OfNone => case.done(CapturedBuilder::new(case.alloc, Mode::Cer).freeze()),
@@ -278,37 +270,59 @@ fn make(case: &Case<'_, impl Abort>, made: Made, octets: &[u8]) -> Captured {
     }
 }
 
-/// Checks that the values are written unchanged in a mode, and captured from position 0, or that
-/// they are refused, since they were captured in another.
-fn check_mode(
+/// What captured values do in modes in which they are written unchanged, or refused, since they
+/// were captured in another.
+fn wanted_of(octets: &[u8], written: [bool; 3]) -> [Wanted<'_>; 3] {
+    let refused = Wanted::Refused(EncodeError::CapturedMode);
+    let mut wanted = [refused; 3];
+    for (mode, written) in written.iter().enumerate() {
+        if mode < 3 && *written {
+            wanted[mode] = Wanted::Octets(octets);
+        }
+    }
+    wanted
+}
+
+/// Asserts what captured values do in BER, CER and DER, and what their position is.
+fn check_captured(
     case: &Case<'_, impl Abort>,
-    captured: &Captured,
-    mode: Mode,
-    octets: &[u8],
-    written: bool,
+    captured: Captured,
+    wanted: [Wanted<'_>; 3],
+    at: &str,
 ) {
-    let again = captured.to_captured(case.alloc, mode);
-    if written {
-        writes(case, captured, mode, octets);
-        let again = case.done(again);
-        case.same(again.as_slice(), octets);
-        writes(case, &again, mode, octets);
-        case.shows(&again.into_source().pos(), "0");
-    } else {
-        refuses(case, captured, mode, EncodeError::CapturedMode);
-        case.holds(matches!(again, Err(EncodeError::CapturedMode)));
+    are_wanted(case, &captured, wanted);
+    case.shows(&captured.into_source().pos(), at);
+}
+
+/// Checks that the values are captured again in a mode, from position 0 on, or that they are
+/// refused.
+fn check_again(case: &Case<'_, impl Abort>, captured: &Captured, mode: Mode, wanted: Wanted<'_>) {
+    match (captured.to_captured(case.alloc, mode), wanted) {
+        (Ok(again), Wanted::Octets(octets)) => {
+            case.same(again.as_slice(), octets);
+            let mut same = [Wanted::Any; 3];
+            match mode {
+                Mode::Ber => same[0] = wanted,
+                Mode::Cer => same[1] = wanted,
+                Mode::Der => same[2] = wanted,
+            }
+            check_captured(case, again, same, "0");
+        }
+        (Err(error), Wanted::Refused(refused)) => case.same(error, refused),
+        _ => case.holds(false),
     }
 }
 
 /// Checks what a line says of captured values.
 fn check(case: &Case<'_, impl Abort>, line: Line) {
-    let (made, octets, [ber, cer, der], at) = line;
+    let (made, octets, written, at) = line;
     let captured = make(case, made, octets);
     case.same(captured.as_slice(), octets);
-    check_mode(case, &captured, Mode::Ber, octets, ber);
-    check_mode(case, &captured, Mode::Cer, octets, cer);
-    check_mode(case, &captured, Mode::Der, octets, der);
-    case.shows(&captured.into_source().pos(), at);
+    let wanted = wanted_of(octets, written);
+    for (mode, wanted) in [Mode::Ber, Mode::Cer, Mode::Der].iter().zip(wanted) {
+        check_again(case, &captured, *mode, wanted);
+    }
+    check_captured(case, captured, wanted, at);
 }
 
 #[test]
@@ -324,19 +338,27 @@ fn no_memory_has_so_much_room(rt: HostRuntime) {
     holds(&rt, matches!(none, Err(NoMemory)));
 }
 
-/// Checks that captured values in DER, and the tag of end-of-contents octets around them, behind
-/// them or before them, are refused in CER for the first of the two.
-fn check_first(case: &Case<'_, impl Abort>, none: &Captured) {
-    let inside = Constructed::new(Tag::END_OF_VALUE, none);
-    refuses(case, &inside, Mode::Cer, EncodeError::EndOfValueTag);
-    let first = sequence((none, true.encode_as(Tag::END_OF_VALUE)));
-    refuses(case, &first, Mode::Cer, EncodeError::CapturedMode);
-    let second = sequence((true.encode_as(Tag::END_OF_VALUE), none));
-    refuses(case, &second, Mode::Cer, EncodeError::EndOfValueTag);
+/// Asserts that the values are refused in CER for this reason.
+fn refused<V: Values>(case: &Case<'_, impl Abort>, values: &V, error: EncodeError)
+    requires { V.can_encode values.now }
+{
+    are_wanted(
+        case,
+        values,
+        [Wanted::Any, Wanted::Refused(error), Wanted::Any],
+    );
 }
 
+/// Checks that captured values in DER, and the tag of end-of-contents octets around them, behind
+/// them or before them, are refused in CER for the first of the two.
 #[test]
 fn the_first_refusal_is_answered(rt: HostRuntime) {
+    let case = Case::new(&rt, rt.alloc(), 0);
     let none = Captured::empty(rt.alloc(), Mode::Der);
-    check_first(&Case::new(&rt, rt.alloc(), 0), &none);
+    let inside = Constructed::new(Tag::END_OF_VALUE, &none);
+    refused(&case, &inside, EncodeError::EndOfValueTag);
+    let first = sequence((&none, true.encode_as(Tag::END_OF_VALUE)));
+    refused(&case, &first, EncodeError::CapturedMode);
+    let second = sequence((true.encode_as(Tag::END_OF_VALUE), &none));
+    refused(&case, &second, EncodeError::EndOfValueTag);
 }

@@ -3,20 +3,19 @@
 
 ghost use Rattle.bcder.specs.calls.Views.{Moved};
 
-use crate::asserts::{Case, done, holds, is_refused, same};
-use crate::over::{Row, check_all, failing_sip};
-use crate::reading::{InSequence, Reader, Refusal, read, read_or_text};
+use crate::asserts::{done, holds, is_refused};
+use crate::over::check_all;
+use crate::reading::{Line, Look, Wanted, check_failing};
 use bcder::decode::{
     Constructed, Content, ContentError, DecodeError, Primitive, SliceSource, Source, walk,
 };
 use bcder::{Mode, Tag};
 use std::alloc::{AllocError, Global};
 use std::fmt::Debug;
-use std::process::Abort;
 use support::calls::{Call, Inside, Take, ask, take_by};
 
-/// Looks at content of both forms in this mode: a primitive and a constructed value, then one of each
-/// that is asked for its form. It says whether each was as it should be.
+/// Looks at content of both forms in this mode: a primitive and a constructed value, then one of
+/// each that is asked for its form. It says whether each was as it should be.
 #[derive(Clone, Copy)]
 struct Forms {
     mode: Mode,
@@ -72,14 +71,14 @@ impl Inside for Forms {
     }
 }
 
-impl Reader for Forms {
-    type Value = bool;
-
-    fn read<S: Source>(
+impl Forms {
+    /// Looks at content of both forms, as it is taken by each kind of take.
+    fn look<S: Source>(
         &mut self,
-        _alloc: Global,
         cons: &mut Constructed<'_, S>,
-    ) -> Result<bool, DecodeError<S::Error>> {
+    ) -> Result<bool, DecodeError<S::Error>>
+        ensures { Moved S.stream cons }
+    {
         take_by(cons, Take::Primitive, Tag::OCTET_STRING, self)?;
         let first = cons.mode() == self.mode;
         take_by(cons, Take::Constructed, Tag::SEQUENCE, self)?;
@@ -105,63 +104,103 @@ fn takes_nothing<S: Source>(alloc: Global, cons: &mut Constructed<'_, S>) -> boo
     is_refused(ask(cons, alloc, Call::Take(Take::OptValue)))
 }
 
-/// Takes one value, and makes the content fail. Notes whether no other value is taken then.
+/// What is done with content.
 #[derive(Clone, Copy)]
-struct FailBehindOne {
-    nothing: bool,
+enum Way {
+    /// Content of both forms is asked of itself, in this mode.
+    Forms(Mode),
+
+    /// The content of a SEQUENCE is made to fail behind one value. Whether no other value is taken
+    /// then is noted.
+    FailBehindOne(bool),
+
+    /// The content of a SEQUENCE is made to fail behind two values at most, and their end.
+    FailBehindAll,
+
+    /// The value behind the first in a SEQUENCE is refused.
+    RefuseSecond,
+
+    /// The value in a SEQUENCE is taken, and the failure of the source is dropped. Whether it is
+    /// told is noted.
+    Enter(bool),
 }
 
-impl Reader for FailBehindOne {
-    type Value = bool;
+/// Takes one value, and makes the content fail. Notes whether no other value is taken then.
+fn fail_behind_one<S: Source>(
+    alloc: Global,
+    cons: &mut Constructed<'_, S>,
+    nothing: &mut bool,
+) -> Result<bool, DecodeError<S::Error>>
+    ensures { Moved S.stream cons }
+{
+    walk(cons)?;
+    cons.fail();
+    *nothing = takes_nothing(alloc, cons);
+    Ok(true)
+}
 
-    fn read<S: Source>(
+/// Takes two values at most and their end, and makes the content fail then.
+fn fail_behind_all<S: Source>(cons: &mut Constructed<'_, S>) -> Result<bool, DecodeError<S::Error>>
+    ensures { Moved S.stream cons }
+{
+    pass(cons)?;
+    pass(cons)?;
+    pass(cons)?;
+    cons.fail();
+    Ok(true)
+}
+
+/// Takes one value, and refuses the next.
+fn refuse_second<S: Source>(cons: &mut Constructed<'_, S>) -> Result<bool, DecodeError<S::Error>>
+    ensures { Moved S.stream cons }
+{
+    pass(cons)?;
+    Err(cons.next_err(ContentError::from_static("no second")))
+}
+
+impl Way {
+    /// Makes the content of a SEQUENCE fail, or refuses it.
+    fn inside<S: Source>(
+        &mut self,
+        alloc: Global,
+        cons: &mut Constructed<'_, S>,
+    ) -> Result<bool, DecodeError<S::Error>>
+        ensures { Moved S.stream cons }
+    {
+        match self {
+            Way::FailBehindOne(nothing) => fail_behind_one(alloc, cons, nothing),
+            Way::FailBehindAll => fail_behind_all(cons),
+            _ => refuse_second(cons),
+        }
+    }
+}
+
+impl Look for Way {
+    fn look<S: Source>(
         &mut self,
         alloc: Global,
         cons: &mut Constructed<'_, S>,
     ) -> Result<bool, DecodeError<S::Error>> {
-        walk(cons)?;
-        cons.fail();
-        self.nothing = takes_nothing(alloc, cons);
-        Ok(true)
+        match self {
+            Way::Forms(mode) => {
+                let mut forms = Forms {
+                    mode: *mode,
+                    right: true,
+                };
+                forms.look(cons)
+            }
+            Way::Enter(right) => enter(alloc, cons, right),
+            _ => cons.take_sequence(|inner| self.inside(alloc, inner)),
+        }
+    }
+
+    fn noted(&self) -> bool {
+        match self {
+            Way::FailBehindOne(noted) | Way::Enter(noted) => *noted,
+            _ => true,
+        }
     }
 }
-
-/// Takes two values at most and their end, and makes the content fail then.
-#[derive(Clone, Copy)]
-struct FailBehindAll;
-
-impl Reader for FailBehindAll {
-    type Value = bool;
-
-    fn read<S: Source>(
-        &mut self,
-        _alloc: Global,
-        cons: &mut Constructed<'_, S>,
-    ) -> Result<bool, DecodeError<S::Error>> {
-        walk(cons)?;
-        walk(cons)?;
-        walk(cons)?;
-        cons.fail();
-        Ok(true)
-    }
-}
-
-/// What is done with content.
-#[derive(Clone, Copy)]
-enum Way {
-    /// Content of both forms is asked of itself.
-    Forms,
-
-    /// The content of a SEQUENCE is made to fail behind one value.
-    FailBehindOne,
-
-    /// The content of a SEQUENCE is made to fail behind all values, and their end.
-    FailBehindAll,
-}
-
-/// A mode, octets, what is done with their content, and whether that is taken then.
-#[derive(Clone, Copy)]
-struct Line(Mode, &'static [u8], Way, bool);
 
 /// An OCTET STRING, a SEQUENCE with one of indefinite length inside, an INTEGER, and a SET.
 const FORMS: &[u8] = &[
@@ -173,46 +212,26 @@ const FORMS: &[u8] = &[
 const TWO: &[u8] = &[0x30, 0x06, 0x02, 0x01, 0x05, 0x02, 0x01, 0x06];
 
 /// Content knows its mode, its form and how many octets it has left. A SEQUENCE is refused if its
-/// content was made to fail, unless its end was taken before.
-const LINES: [Line; 5] = [
-    Line(Mode::Ber, FORMS, Way::Forms, true),
-    Line(Mode::Der, FORMS, Way::Forms, true),
-    Line(Mode::Der, TWO, Way::FailBehindOne, false),
-    Line(Mode::Der, TWO, Way::FailBehindAll, false),
+/// content was made to fail, unless its end was taken before. The next value is refused at its
+/// position, not at that of the content.
+const LINES: [Line<'_, Way>; 6] = [
+    Line(Mode::Ber, FORMS, Way::Forms(Mode::Ber), Wanted::Right),
+    Line(Mode::Der, FORMS, Way::Forms(Mode::Der), Wanted::Right),
+    Line(Mode::Der, TWO, Way::FailBehindOne(false), Wanted::Refused),
+    Line(Mode::Der, TWO, Way::FailBehindAll, Wanted::Refused),
     Line(
         Mode::Ber,
         &[0x30, 0x80, 0x02, 0x01, 0x05, 0x00, 0x00],
         Way::FailBehindAll,
-        true,
+        Wanted::Right,
+    ),
+    Line(
+        Mode::Der,
+        TWO,
+        Way::RefuseSecond,
+        Wanted::Says("no second (at position 5)"),
     ),
 ];
-
-impl Row for Line {
-    fn octets(&self) -> &[u8] {
-        self.1
-    }
-
-    fn check<S: Source + Drop, R: Abort>(&self, case: &Case<'_, R>, source: S) {
-        let mut source = source;
-        let (alloc, mode) = (case.alloc, self.0);
-        let found = match self.2 {
-            Way::Forms => read(alloc, mode, &mut source, &mut Forms { mode, right: true }),
-            Way::FailBehindOne => {
-                let mut inside = InSequence(FailBehindOne { nothing: false });
-                let found = read(alloc, mode, &mut source, &mut inside);
-                case.holds(inside.0.nothing);
-                found
-            }
-            Way::FailBehindAll => { read(alloc, mode, &mut source, &mut InSequence(FailBehindAll)) }
-        };
-        let wanted = if self.3 {
-            Ok(true)
-        } else {
-            Err(Refusal::Content)
-        };
-        case.same(found, wanted);
-    }
-}
 
 #[test]
 fn content_of_itself_and_failed(rt: HostRuntime) {
@@ -221,93 +240,41 @@ fn content_of_itself_and_failed(rt: HostRuntime) {
 
 /// Takes a value, and drops the error if the source fails. Notes whether no other value is taken
 /// then.
-#[derive(Clone, Copy)]
-struct Dropping {
-    right: bool,
-}
-
-impl Reader for Dropping {
-    type Value = ();
-
-    fn read<S: Source>(
-        &mut self,
-        alloc: Global,
-        cons: &mut Constructed<'_, S>,
-    ) -> Result<(), DecodeError<S::Error>> {
-        if let Err(error) = ask(cons, alloc, Call::Take(Take::Primitive)) {
-            self.right = error.is_source() && takes_nothing(alloc, cons);
-        }
-        Ok(())
+fn drop_failure<S: Source>(
+    alloc: Global,
+    cons: &mut Constructed<'_, S>,
+    right: &mut bool,
+) -> Result<(), DecodeError<S::Error>>
+    ensures { Moved S.stream cons }
+{
+    if let Err(error) = ask(cons, alloc, Call::Take(Take::Primitive)) {
+        *right = error.is_source() && takes_nothing(alloc, cons);
     }
+    Ok(())
 }
 
 /// Takes a value inside a SEQUENCE, and drops the error if the source fails. Notes whether the
 /// SEQUENCE is refused then, and no other value is taken.
-#[derive(Clone, Copy)]
-struct Entering {
-    right: bool,
-}
-
-impl Reader for Entering {
-    type Value = ();
-
-    fn read<S: Source>(
-        &mut self,
-        alloc: Global,
-        cons: &mut Constructed<'_, S>,
-    ) -> Result<(), DecodeError<S::Error>> {
-        let mut inside = InSequence(Dropping { right: true });
-        let entered = inside.read(alloc, cons);
-        self.right = inside.0.right;
-        if entered.is_err() {
-            self.right = self.right && takes_nothing(alloc, cons);
-        }
-        Ok(())
+fn enter<S: Source>(
+    alloc: Global,
+    cons: &mut Constructed<'_, S>,
+    right: &mut bool,
+) -> Result<bool, DecodeError<S::Error>>
+    ensures { Moved S.stream cons }
+{
+    let entered = cons.take_sequence(|inner| drop_failure(alloc, inner, right));
+    if entered.is_err() {
+        *right = *right && takes_nothing(alloc, cons);
     }
+    Ok(true)
 }
 
-/// Lets each request of the source fail once. The last number is more than there are requests.
+/// Lets each request of the source fail once.
 #[test]
 fn failed_sources_fail_content(rt: HostRuntime) {
-    let alloc = rt.alloc();
-    let last = 64usize;
-    for failing in 1..=last {
-        let mut source = failing_sip(&rt, alloc, &[0x30, 0x03, 0x02, 0x01, 0x05], failing);
-        let mut entering = Entering { right: true };
-        let refused = read(alloc, Mode::Der, &mut source, &mut entering).is_err();
-        holds(&rt, entering.right);
-        same(&rt, refused, source.faults() == 1);
-        holds(&rt, failing > 1 || refused);
-        holds(&rt, failing < last || !refused);
-    }
-}
-
-/// Takes one value, and refuses the next.
-#[derive(Clone, Copy)]
-struct RefuseSecond;
-
-impl Reader for RefuseSecond {
-    type Value = ();
-
-    fn read<S: Source>(
-        &mut self,
-        _alloc: Global,
-        cons: &mut Constructed<'_, S>,
-    ) -> Result<(), DecodeError<S::Error>> {
-        walk(cons)?;
-        Err(cons.next_err(ContentError::from_static("no second")))
-    }
-}
-
-/// The position is that of the second value, not that of the content.
-#[test]
-fn the_next_value_is_refused_at_its_position(rt: HostRuntime) {
-    let mut source = SliceSource::new(TWO);
-    let mut inside = InSequence(RefuseSecond);
-    match read_or_text(rt.alloc(), Mode::Der, &mut source, &mut inside) {
-        Err(Some(text)) => same(&rt, text.as_str(), "no second (at position 5)"),
-        _ => holds(&rt, false),
-    }
+    let octets = &[0x30, 0x03, 0x02, 0x01, 0x05];
+    let line = Line(Mode::Der, octets, Way::Enter(true), Wanted::Fails);
+    check_failing(&rt, rt.alloc(), 0, &line);
 }
 
 /// Returns the debug text of values.

@@ -4,9 +4,9 @@
 
 ghost use Rattle.bcder.specs.calls.Views.{Moved};
 
-use crate::asserts::{Case, done};
-use crate::over::{Row, check_over};
-use crate::reading::{Reader, Refusal, read, why};
+use crate::asserts::done;
+use crate::over::check_over;
+use crate::reading::{Line, Look, Refusal, Wanted, why};
 use bcder::decode::{Constructed, ContentError, DecodeError, Source};
 use bcder::{Mode, Tag};
 use std::alloc::Global;
@@ -14,6 +14,19 @@ use std::process::Abort;
 
 /// The number of sequences that are opened.
 const LEVELS: usize = 100_000;
+
+/// What is done with nested sequences.
+#[derive(Clone, Copy)]
+enum Way<'a> {
+    /// They are skipped, and the closure has to be told of so many. What it was told is noted.
+    Skipped(usize, Told),
+
+    /// They are captured as these octets.
+    Captured(&'a [u8]),
+
+    /// They are refused by a capture, so that all are left.
+    Left,
+}
 
 /// What a closure was told: the number of headings, and whether they were those of nested
 /// sequences.
@@ -39,43 +52,45 @@ fn skip_told<S: Source>(
     cons: &mut Constructed<'_, S>,
     alloc: Global,
     told: &mut Told,
-) -> Result<(), DecodeError<S::Error>>
+) -> Result<bool, DecodeError<S::Error>>
     ensures { Moved S.stream cons }
 {
     let mut op = |tag: Tag, constructed: bool, depth: usize| -> Result<(), ContentError> {
         told.hear(tag, constructed, depth);
         Ok(())
     };
-    cons.skip(alloc, &mut op)
+    cons.skip(alloc, &mut op)?;
+    Ok(true)
 }
 
-impl Reader for Told {
-    type Value = ();
-
-    fn read<S: Source>(
-        &mut self,
-        alloc: Global,
-        cons: &mut Constructed<'_, S>,
-    ) -> Result<(), DecodeError<S::Error>> {
-        skip_told(cons, alloc, self)
+/// Captures the next value, and returns whether it is these octets, or is refused if there are
+/// none.
+fn capture<S: Source>(cons: &mut Constructed<'_, S>, alloc: Global, wanted: Option<&[u8]>) -> bool
+    ensures { Moved S.stream cons }
+{
+    match cons.capture_one(alloc) {
+        Ok(values) => Some(values.as_slice()) == wanted,
+        Err(error) => wanted.is_none() && why(error) == Refusal::Content,
     }
 }
 
-/// Captures the next value, and says whether it is these octets, or why it was refused.
-#[derive(Clone, Copy)]
-struct Capture<'a>(&'a [u8]);
-
-impl Reader for Capture<'_> {
-    type Value = Result<bool, Refusal>;
-
-    fn read<S: Source>(
+impl Look for Way<'_> {
+    fn look<S: Source>(
         &mut self,
         alloc: Global,
         cons: &mut Constructed<'_, S>,
-    ) -> Result<Result<bool, Refusal>, DecodeError<S::Error>> {
-        match cons.capture_one(alloc) {
-            Ok(values) => Ok(Ok(values.as_slice() == self.0)),
-            Err(error) => Ok(Err(why(error))),
+    ) -> Result<bool, DecodeError<S::Error>> {
+        match self {
+            Way::Skipped(_, told) => skip_told(cons, alloc, told),
+            Way::Captured(octets) => Ok(capture(cons, alloc, Some(*octets))),
+            Way::Left => Ok(capture(cons, alloc, None)),
+        }
+    }
+
+    fn noted(&self) -> bool {
+        match self {
+            Way::Skipped(calls, told) => told.calls == *calls && told.nested,
+            _ => true,
         }
     }
 }
@@ -90,11 +105,10 @@ fn nested(rt: &impl Abort, alloc: Global) -> Vec<u8> {
     octets
 }
 
-/// How many octets of the nested sequences are there, the mode, whether they are skipped, and after
-/// how many calls that ends. Each level has two octets at its beginning and two at its end.
-type Line = (usize, Mode, bool, usize);
-
-const LINES: [Line; 5] = [
+/// How many octets of the nested sequences are there, the mode, whether they are skipped up to the
+/// end or refused, and after how many calls that ends, one for each level, at its depth. Each level
+/// has two octets at its beginning and two at its end.
+const LINES: [(usize, Mode, bool, usize); 5] = [
     (4 * LEVELS, Mode::Ber, true, LEVELS),
     (4 * LEVELS, Mode::Cer, true, LEVELS),
     (4 * LEVELS, Mode::Der, false, 0),
@@ -102,66 +116,25 @@ const LINES: [Line; 5] = [
     (2 * LEVELS, Mode::Ber, false, LEVELS),
 ];
 
-/// Octets that are skipped up to the end of the source, or refused for what they are, after a number
-/// of calls, one for each level, at its depth.
-#[derive(Clone, Copy)]
-struct Skipped<'a>(&'a [u8], Line);
-
-/// Octets that are captured up to the end of the source, or refused, so that all are left.
-#[derive(Clone, Copy)]
-struct Captured<'a>(&'a [u8], Line);
-
-impl Row for Skipped<'_> {
-    fn octets(&self) -> &[u8] {
-        self.0
-    }
-
-    fn check<S: Source + Drop, R: Abort>(&self, case: &Case<'_, R>, source: S) {
-        let mut source = source;
-        let (_, mode, skipped, calls) = self.1;
-        let mut told = Told {
-            calls: 0,
-            nested: true,
-        };
-        match read(case.alloc, mode, &mut source, &mut told) {
-            Ok(()) => {
-                case.holds(skipped);
-                case.same(case.done(source.take_opt_u8()), None);
-            }
-            Err(refusal) => case.holds(!skipped && refusal == Refusal::Content),
-        }
-        case.same(told.calls, calls);
-        case.holds(told.nested);
-    }
-}
-
-impl Row for Captured<'_> {
-    fn octets(&self) -> &[u8] {
-        self.0
-    }
-
-    fn check<S: Source + Drop, R: Abort>(&self, case: &Case<'_, R>, source: S) {
-        let mut source = source;
-        let (_, mode, captured, _) = self.1;
-        let all = self.0.len();
-        let found = read(case.alloc, mode, &mut source, &mut Capture(self.0));
-        let wanted = if captured {
-            Ok(true)
-        } else {
-            Err(Refusal::Content)
-        };
-        case.same(found, Ok(wanted));
-        let left = if captured { 0 } else { all };
-        case.same(case.done(source.skip(all)), left);
-    }
-}
+/// Nothing was told yet.
+const NONE: Told = Told {
+    calls: 0,
+    nested: true,
+};
 
 #[test]
 fn nested_sequences(rt: HostRuntime) {
     let octets = nested(&rt, rt.alloc());
-    for (number, line) in LINES.iter().enumerate() {
-        let front = &octets[..line.0.min(octets.len())];
-        check_over(&rt, rt.alloc(), number, &Skipped(front, *line));
-        check_over(&rt, rt.alloc(), number, &Captured(front, *line));
+    for (row, (len, mode, taken, calls)) in LINES.iter().enumerate() {
+        let front = &octets[..(*len).min(octets.len())];
+        let (skipped, captured, left) = if *taken {
+            (Wanted::Left(0), Way::Captured(front), 0)
+        } else {
+            (Wanted::Refused, Way::Left, front.len())
+        };
+        let line = Line(*mode, front, Way::Skipped(*calls, NONE), skipped);
+        check_over(&rt, rt.alloc(), row, &line);
+        let line = Line(*mode, front, captured, Wanted::Left(left));
+        check_over(&rt, rt.alloc(), row, &line);
     }
 }

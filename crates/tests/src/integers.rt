@@ -5,8 +5,8 @@
 ghost use Rattle.bcder.specs.calls.Views.{MovedOctets};
 
 use crate::asserts::{Case, done, holds, same, shows};
-use crate::over::sip;
-use crate::reading::{Reader, read};
+use crate::over::check_over;
+use crate::reading::{self, Look, Wanted};
 use bcder::decode::{Constructed, ContentError, DecodeError, Primitive, Source};
 use bcder::int::{IntegerError, InvalidInteger, OverflowError};
 use bcder::{Integer, Mode, Tag, Unsigned};
@@ -72,7 +72,7 @@ fn look_and_take<S: Source>(
 
 impl Way {
     /// Reads octets, and returns whether they are as they should be.
-    fn look<S: Source>(
+    fn read<S: Source>(
         self,
         alloc: Global,
         octets: &mut Primitive<'_, S>,
@@ -96,7 +96,7 @@ fn octets_as_they_are(rt: HostRuntime) {
     for (row, (octets, way)) in READ.iter().enumerate() {
         let case = Case::new(&rt, alloc, row);
         let is_left = matches!(way, Way::Left);
-        match Primitive::decode_slice(*octets, Mode::Der, |p| way.look(alloc, p)) {
+        match Primitive::decode_slice(*octets, Mode::Der, |p| way.read(alloc, p)) {
             Ok(right) => case.holds(right && !is_left),
             Err(error) => {
                 case.holds(is_left);
@@ -107,23 +107,22 @@ fn octets_as_they_are(rt: HostRuntime) {
 }
 
 /// Reads an INTEGER.
-impl Reader for Way {
-    type Value = bool;
-
-    fn read<S: Source>(
+impl Look for Way {
+    fn look<S: Source>(
         &mut self,
         alloc: Global,
         cons: &mut Constructed<'_, S>,
     ) -> Result<bool, DecodeError<S::Error>> {
-        cons.take_primitive_if(Tag::INTEGER, |octets| self.look(alloc, octets))
+        let way = *self;
+        cons.take_primitive_if(Tag::INTEGER, |octets| way.read(alloc, octets))
     }
 }
 
 #[test]
 fn octets_that_are_looked_at(rt: HostRuntime) {
-    let mut source = sip(&rt, rt.alloc(), &[0x02, 0x03, 0x01, 0x02, 0x03]);
-    let looked = read(rt.alloc(), Mode::Der, &mut source, &mut Way::Looked);
-    same(&rt, looked, Ok(true));
+    let octets = &[0x02, 0x03, 0x01, 0x02, 0x03];
+    let line = reading::Line(Mode::Der, octets, Way::Looked, Wanted::Left(0));
+    check_over(&rt, rt.alloc(), 0, &line);
 }
 
 // ---- integers

@@ -36,6 +36,8 @@ mod refusals;
 #[cfg(test)]
 mod sources;
 #[cfg(test)]
+mod steps;
+#[cfg(test)]
 mod strings;
 #[cfg(test)]
 mod tag_names;

@@ -1,6 +1,8 @@
 //! Tests of sources and errors, with values from outside. The digits are ASCII octets.
-use crate::asserts::{Case, done, holds, is_failed, is_refused, same, shows};
+use crate::asserts::{Case, done, holds, same, shows};
 use crate::over::{Row, check_all, failing_sip, shared, sip};
+use crate::reading::Refusal;
+use crate::steps::{Limit, Step, follow, follow_limit};
 use bcder::decode::{
     BytesSource, CaptureSource, ContentError, DecodeError, IntoSource, LimitedSource, Message, Pos,
     SliceSource, Source,
@@ -16,21 +18,6 @@ use support::borrows::{
     take_exactly, without_two,
 };
 use support::sip::SipError;
-
-/// Asserts what is left of a source.
-fn assert_rest<S: Source>(case: &Case<'_, impl Abort>, source: &mut S, rest: &[u8]) {
-    case.same(case.done(source.request(rest.len())), rest.len());
-    case.same(source.slice(), rest);
-    case.holds(case.done(source.take_opt_u8()).is_some() || rest.is_empty());
-}
-
-/// Returns whether a call was refused with a fixed text.
-fn is_static<T: Drop, E: Drop>(outcome: Result<T, DecodeError<E>>) -> bool {
-    match outcome {
-        Ok(_) => false,
-        Err(error) => matches!(error.content_error(), Some(ContentError::Static(_))),
-    }
-}
 
 /// Checks a limit over a capturing source over a limit.
 fn check_nested<S: Source>(case: &Case<'_, impl Abort>, inner: &mut LimitedSource<S>) {
@@ -53,74 +40,6 @@ fn check_nested<S: Source>(case: &Case<'_, impl Abort>, inner: &mut LimitedSourc
         case.done(capture.into_bytes(case.alloc)).as_slice(),
         b"1234".as_slice(),
     );
-}
-
-/// Checks what is left after a limit over a capturing source over a limit.
-fn check_behind_nested<S: Source + Drop>(case: &Case<'_, impl Abort>, source: S) {
-    let mut inner = LimitedSource::new(source);
-    check_nested(case, &mut inner);
-    case.same(inner.limit(), Some(0));
-    let mut source = inner.unwrap();
-    case.same(case.done(source.request(4)), 4);
-    case.same(source.slice(), b"5678".as_slice());
-}
-
-fn check_limit<S: Source + Drop>(case: &Case<'_, impl Abort>, source: S) {
-    let mut source = LimitedSource::new(source);
-    case.same(source.limit_further(Some(4)), None);
-    let refused = source.exhausted();
-    case.holds(is_refused(refused));
-    let found = case.done(source.request(6));
-    case.are(found, 4);
-    source.advance(2);
-    case.holds(source.exhausted().is_err());
-    let found = case.done(source.request(6));
-    case.are(found, 2);
-    source.advance(2);
-    case.holds(source.exhausted().is_ok());
-    case.same(case.done(source.request(6)), 0);
-    case.same(source.limit(), Some(0));
-    source.set_limit(Some(4));
-    case.done(source.skip_all());
-    source.set_limit(None);
-    case.holds(source.exhausted().is_ok());
-}
-
-/// Checks that a source's own calls refuse with fixed texts, over two octets.
-fn check_texts<S: Source + Drop>(case: &Case<'_, impl Abort>, source: S) {
-    let mut source = LimitedSource::new(source);
-    source.set_limit(Some(3));
-    case.holds(is_static(source.skip_all()));
-    case.holds(is_static(source.take_all(case.alloc)));
-    case.holds(is_static(source.exhausted()));
-    source.set_limit(None);
-    case.holds(is_static(source.exhausted()));
-    let mut source = source.unwrap();
-    case.done(source.skip(2));
-    case.holds(is_static(source.take_u8()));
-}
-
-fn check_take_all<S: Source + Drop>(case: &Case<'_, impl Abort>, source: S) {
-    let mut source = LimitedSource::new(source);
-    source.set_limit(Some(4));
-    let taken = case.done(source.take_all(case.alloc));
-    case.same(taken.as_slice(), b"1234".as_slice());
-    assert_rest(case, &mut source.unwrap(), b"5678");
-}
-
-fn check_octets<S: Source>(case: &Case<'_, impl Abort>, source: &mut S, wanted: &[u8]) {
-    for octet in wanted {
-        case.same(case.done(source.take_u8()), *octet);
-    }
-    let refused = source.take_u8();
-    case.holds(is_refused(refused));
-}
-
-fn check_opt_octets<S: Source>(case: &Case<'_, impl Abort>, source: &mut S, wanted: &[u8]) {
-    for octet in wanted {
-        case.same(case.done(source.take_opt_u8()), Some(*octet));
-    }
-    case.same(case.done(source.take_opt_u8()), None);
 }
 
 fn check_capture<S: Source>(case: &Case<'_, impl Abort>, source: &mut S) {
@@ -162,7 +81,7 @@ fn check_passed<S: Source + Drop>(case: &Case<'_, impl Abort>, mut source: S) {
     case.holds(case.done(has_two(&mut source)));
     case.holds(case.done(skip_two(&mut source)));
     match case.done(without_two(source)) {
-        Some(mut left) => case.same(case.done(left.take_opt_u8()), None),
+        Some(mut left) => follow(case, &mut left, &[Step::OptOctet(Some(None))]),
         None => case.holds(false),
     }
 }
@@ -170,12 +89,14 @@ fn check_passed<S: Source + Drop>(case: &Case<'_, impl Abort>, mut source: S) {
 /// What is done with a source.
 #[derive(Clone, Copy)]
 enum Way {
+    /// Calls are made.
+    Steps(&'static [Step]),
+
+    /// A limit is set, if there is one, and calls are made, and then others on what is behind the
+    /// limit.
+    Limited(Option<usize>, &'static [Limit], &'static [Step]),
+
     Nested,
-    Limit,
-    Texts,
-    TakeAll,
-    Octets,
-    OptOctets,
     Captures,
     Taken,
     Passed,
@@ -187,15 +108,105 @@ struct Line(&'static [u8], Way);
 
 const LINES: [Line; 9] = [
     Line(b"12345678", Way::Nested),
-    Line(b"12345678", Way::Limit),
-    Line(b"12", Way::Texts),
-    Line(b"12345678", Way::TakeAll),
-    Line(b"123", Way::Octets),
-    Line(b"123", Way::OptOctets),
+    Line(
+        b"12345678",
+        Way::Limited(
+            Some(4),
+            &[
+                Limit::Exhausted(Err(Refusal::Content)),
+                Limit::Of(Step::Request(6, Some(4), 2)),
+                Limit::Exhausted(Err(Refusal::Content)),
+                Limit::Of(Step::Request(6, Some(2), 2)),
+                Limit::Exhausted(Ok(())),
+                Limit::Of(Step::Request(6, Some(0), 0)),
+                Limit::Is(Some(0)),
+                Limit::Set(Some(4)),
+                Limit::SkipAll(Ok(())),
+                Limit::Set(None),
+                Limit::Exhausted(Ok(())),
+            ],
+            &[],
+        ),
+    ),
+    // the calls refuse with fixed texts
+    Line(
+        b"12",
+        Way::Limited(
+            None,
+            &[
+                Limit::Set(Some(3)),
+                Limit::SkipAll(Err(Refusal::Content)),
+                Limit::TakeAll(Err(Refusal::Content)),
+                Limit::Exhausted(Err(Refusal::Content)),
+                Limit::Set(None),
+                Limit::Exhausted(Err(Refusal::Content)),
+            ],
+            &[Step::Skip(2, Some(2)), Step::Octet(Err(Refusal::Content))],
+        ),
+    ),
+    Line(
+        b"12345678",
+        Way::Limited(
+            None,
+            &[Limit::Set(Some(4)), Limit::TakeAll(Ok(b"1234"))],
+            &[
+                Step::Request(4, Some(4), 0),
+                Step::Slice(b"5678"),
+                Step::OptOctet(Some(Some(b'5'))),
+            ],
+        ),
+    ),
+    Line(
+        b"123",
+        Way::Steps(&[
+            Step::Octet(Ok(b'1')),
+            Step::Octet(Ok(b'2')),
+            Step::Octet(Ok(b'3')),
+            Step::Octet(Err(Refusal::Content)),
+        ]),
+    ),
+    Line(
+        b"123",
+        Way::Steps(&[
+            Step::OptOctet(Some(Some(b'1'))),
+            Step::OptOctet(Some(Some(b'2'))),
+            Step::OptOctet(Some(Some(b'3'))),
+            Step::OptOctet(Some(None)),
+        ]),
+    ),
     Line(b"1234567890", Way::Captures),
     Line(b"12345678", Way::Taken),
     Line(b"12345678", Way::Passed),
 ];
+
+/// What is left behind the capture.
+const CAPTURED: [Step; 3] = [
+    Step::Request(6, Some(6), 0),
+    Step::Slice(b"567890"),
+    Step::OptOctet(Some(Some(b'5'))),
+];
+
+/// What is left behind the nested limits.
+const BEHIND_NESTED: [Step; 2] = [Step::Request(4, Some(4), 0), Step::Slice(b"5678")];
+
+/// Checks calls up to a limit, and behind it.
+fn check_limited<S: Source + Drop>(case: &Case<'_, impl Abort>, source: S, way: Way) {
+    let mut limited = LimitedSource::new(source);
+    match way {
+        Way::Limited(limit, steps, behind) => {
+            if limit.is_some() {
+                case.same(limited.limit_further(limit), None);
+            }
+            follow_limit(case, &mut limited, steps);
+            follow(case, &mut limited.unwrap(), behind);
+        }
+        _ => {
+            check_nested(case, &mut limited);
+            case.same(limited.limit(), Some(0));
+            follow(case, &mut limited.unwrap(), &BEHIND_NESTED);
+        }
+    }
+}
 
 impl Row for Line {
     fn octets(&self) -> &[u8] {
@@ -205,16 +216,12 @@ impl Row for Line {
     fn check<S: Source + Drop, R: Abort>(&self, case: &Case<'_, R>, source: S) {
         let mut source = source;
         match self.1 {
-            Way::Nested => check_behind_nested(case, source),
-            Way::Limit => check_limit(case, source),
-            Way::Texts => check_texts(case, source),
-            Way::TakeAll => check_take_all(case, source),
-            Way::Octets => check_octets(case, &mut source, self.0),
-            Way::OptOctets => check_opt_octets(case, &mut source, self.0),
+            Way::Steps(steps) => follow(case, &mut source, steps),
+            Way::Limited(_, _, _) | Way::Nested => check_limited(case, source, self.1),
             Way::Captures => {
                 check_capture(case, &mut source);
                 check_later_capture(case, &mut source);
-                assert_rest(case, &mut source, b"567890");
+                follow(case, &mut source, &CAPTURED);
             }
             Way::Taken => check_taken(case, &mut source),
             Way::Passed => check_passed(case, source),
@@ -227,45 +234,68 @@ fn sources_and_views(rt: HostRuntime) {
     check_all(&rt, rt.alloc(), &LINES);
 }
 
+/// Octets, the request that fails, if one does, calls, and how often the source failed then. A call
+/// that fails takes nothing.
+const SIPS: [(&[u8], usize, &[Step], usize); 3] = [
+    (
+        b"12345678",
+        0,
+        &[
+            Step::Request(3, Some(3), 0),
+            Step::Slice(b"123"),
+            Step::Request(1, Some(1), 0),
+            Step::Slice(b"1"),
+            Step::Request(9, Some(8), 0),
+        ],
+        0,
+    ),
+    (
+        b"1234",
+        2,
+        &[
+            Step::Skip(1, Some(1)),
+            Step::Skip(2, None),
+            Step::Octet(Ok(b'2')),
+        ],
+        1,
+    ),
+    (
+        b"1234",
+        1,
+        &[
+            Step::Octet(Err(Refusal::Source)),
+            Step::OptOctet(Some(Some(b'1'))),
+        ],
+        1,
+    ),
+];
+
 #[test]
 fn sips(rt: HostRuntime) {
-    let mut source = sip(&rt, rt.alloc(), b"12345678");
-    same(&rt, done(&rt, source.request(3)), 3);
-    same(&rt, source.slice(), b"123".as_slice());
-    same(&rt, done(&rt, source.request(1)), 1);
-    same(&rt, source.slice(), b"1".as_slice());
-    same(&rt, done(&rt, source.request(9)), 8);
-    same(&rt, source.faults(), 0);
+    for (row, (octets, failing, steps, faults)) in SIPS.iter().enumerate() {
+        let case = Case::new(&rt, rt.alloc(), row);
+        let mut source = failing_sip(&rt, rt.alloc(), *octets, *failing);
+        follow(&case, &mut source, *steps);
+        case.same(source.faults(), *faults);
+    }
 }
 
-// Checks a failed request, in the middle of a source.
-#[test]
-fn failed_skip(rt: HostRuntime) {
-    let mut source = failing_sip(&rt, rt.alloc(), b"1234", 2);
-    same(&rt, done(&rt, source.skip(1)), 1);
-    same(&rt, source.skip(2), Err(SipError));
-    same(&rt, source.faults(), 1);
-    same(&rt, done(&rt, source.take_u8()), b'2');
-}
+/// A failed call leaves the limit, and what is behind it.
+const FAILED: Way = Way::Limited(
+    None,
+    &[
+        Limit::Set(Some(2)),
+        Limit::SkipAll(Err(Refusal::Source)),
+        Limit::Is(Some(2)),
+        Limit::TakeAll(Ok(b"12")),
+    ],
+    &[],
+);
 
 #[test]
 fn failed_limited(rt: HostRuntime) {
-    let mut limited = LimitedSource::new(failing_sip(&rt, rt.alloc(), b"1234", 1));
-    limited.set_limit(Some(2));
-    holds(&rt, is_failed(limited.skip_all()));
-    same(&rt, limited.limit(), Some(2));
-    same(
-        &rt,
-        done(&rt, limited.take_all(rt.alloc())).as_slice(),
-        b"12".as_slice(),
-    );
-}
-
-#[test]
-fn failed_octet(rt: HostRuntime) {
-    let mut source = failing_sip(&rt, rt.alloc(), b"1234", 1);
-    holds(&rt, is_failed(source.take_u8()));
-    same(&rt, done(&rt, source.take_opt_u8()), Some(b'1'));
+    let case = Case::new(&rt, rt.alloc(), 0);
+    check_limited(&case, failing_sip(&rt, rt.alloc(), b"1234", 1), FAILED);
 }
 
 #[test]
@@ -285,10 +315,6 @@ fn failed_capture(rt: HostRuntime) {
     );
 }
 
-fn assert_at<S: Source>(rt: &impl Abort, alloc: Global, source: &S, text: &str) {
-    shows(rt, alloc, &source.pos(), text);
-}
-
 #[test]
 fn positions(rt: HostRuntime) {
     let last = Pos::from(usize::MAX) + Pos::from(1);
@@ -298,90 +324,117 @@ fn positions(rt: HostRuntime) {
     same(&rt, usize::from(Pos::from(3) + Pos::from(4)), 7);
 }
 
-#[test]
-fn slices(rt: HostRuntime) {
-    let mut slice = SliceSource::new(b"12345678");
-    assert_at(&rt, rt.alloc(), &slice, "0");
-    slice.advance(3);
-    assert_at(&rt, rt.alloc(), &slice, "3");
-    same(&rt, slice.split_to(2), b"45".as_slice());
-    assert_at(&rt, rt.alloc(), &slice, "5");
-    same(&rt, slice.len(), 3);
-    holds(&rt, !slice.is_empty());
+/// Checks the positions of a slice of eight digits, of which five are passed over, and that of an
+/// error behind them.
+fn check_slice(
+    case: &Case<'_, impl Abort>,
+    start: Option<Pos>,
+    at: [&'static str; 3],
+    error: &str,
+) {
+    let mut slice = match start {
+        None => SliceSource::new(b"12345678"),
+        Some(start) => SliceSource::with_offset(b"12345678", start),
+    };
+    let [begin, middle, end] = at;
+    let front = [
+        Step::At(begin),
+        Step::Request(3, Some(8), 3),
+        Step::At(middle),
+    ];
+    follow(case, &mut slice, &front);
+    case.are(slice.len(), 5);
+    case.same(slice.split_to(2), b"45".as_slice());
+    follow(case, &mut slice, &[Step::At(end), Step::Slice(b"678")]);
+    case.holds(slice.len() == 3 && !slice.is_empty());
+    case.shows(&slice.content_err(ContentError::from_static("no")), error);
 }
 
 #[test]
-fn slices_from_an_offset(rt: HostRuntime) {
-    let mut slice = SliceSource::with_offset(b"12345678", Pos::from(100));
-    assert_at(&rt, rt.alloc(), &slice, "100");
-    slice.advance(3);
-    same(&rt, slice.split_to(2), b"45".as_slice());
-    assert_at(&rt, rt.alloc(), &slice, "105");
-    same(&rt, slice.len(), 3);
-    let error = slice.content_err(ContentError::from_static("no"));
-    shows(&rt, rt.alloc(), &error, "no (at position 105)");
+fn slices(rt: HostRuntime) {
+    let case = Case::new(&rt, rt.alloc(), 0);
+    check_slice(&case, None, ["0", "3", "5"], "no (at position 5)");
+    let at = ["100", "103", "105"];
+    check_slice(&case, Some(Pos::from(100)), at, "no (at position 105)");
     let last = SliceSource::with_offset(b"1", Pos::from(usize::MAX));
-    assert_at(&rt, rt.alloc(), &last, "18446744073709551615");
+    case.shows(&last.pos(), "18446744073709551615");
 }
 
 #[test]
 fn shared_octets(rt: HostRuntime) {
-    let octets = done(&rt, Bytes::copy_from_slice(rt.alloc(), b"12345678"));
-    same(&rt, octets.len(), 8);
+    let case = Case::new(&rt, rt.alloc(), 0);
+    let octets = case.done(Bytes::copy_from_slice(rt.alloc(), b"12345678"));
+    case.same(octets.len(), 8);
     let mut bytes = BytesSource::with_offset(octets, Pos::from(100));
-    assert_at(&rt, rt.alloc(), &bytes, "100");
-    bytes.advance(1);
-    assert_at(&rt, rt.alloc(), &bytes, "101");
-    same(
-        &rt,
-        done(&rt, bytes.split_to(2)).as_slice(),
-        b"23".as_slice(),
-    );
-    assert_at(&rt, rt.alloc(), &bytes, "103");
-    same(&rt, bytes.len(), 5);
-    holds(&rt, !bytes.is_empty());
-    same(&rt, bytes.into_bytes().as_slice(), b"45678".as_slice());
+    let front = [
+        Step::At("100"),
+        Step::Request(1, Some(8), 1),
+        Step::At("101"),
+    ];
+    follow(&case, &mut bytes, &front);
+    case.are(bytes.len(), 7);
+    let split = case.done(bytes.split_to(2));
+    case.same(split.as_slice(), b"23".as_slice());
+    case.shows(&bytes.pos(), "103");
+    case.holds(bytes.len() == 5 && !bytes.is_empty());
+    case.same(bytes.into_bytes().as_slice(), b"45678".as_slice());
 }
 
 #[test]
 fn wrappers(rt: HostRuntime) {
-    let octets = done(&rt, Bytes::copy_from_slice(rt.alloc(), b"12345678"));
+    let case = Case::new(&rt, rt.alloc(), 0);
+    let octets = case.done(Bytes::copy_from_slice(rt.alloc(), b"12345678"));
     let mut bytes = BytesSource::with_offset(octets, Pos::from(100));
     let mut limited = LimitedSource::new(CaptureSource::new(&mut bytes));
-    same(&rt, done(&rt, limited.skip(2)), 2);
-    assert_at(&rt, rt.alloc(), &limited, "102");
-    assert_at(&rt, rt.alloc(), &bytes, "100");
-    same(&rt, done(&rt, bytes.take_u8()), b'1');
+    follow(
+        &case,
+        &mut limited,
+        &[Step::Skip(2, Some(2)), Step::At("102")],
+    );
+    follow(&case, &mut bytes, &[Step::At("100"), Step::Octet(Ok(b'1'))]);
     let error = bytes.content_err(ContentError::from_static("no"));
-    shows(&rt, rt.alloc(), &error, "no (at position 101)");
+    case.shows(&error, "no (at position 101)");
 }
+
+/// All of three digits.
+const DIGITS: [Step; 3] = [
+    Step::Request(3, Some(3), 0),
+    Step::Slice(b"123"),
+    Step::OptOctet(Some(Some(b'1'))),
+];
 
 #[test]
 fn made_of(rt: HostRuntime) {
     let octets = b"123".as_slice();
     let case = Case::new(&rt, rt.alloc(), 0);
-    let shared = done(&rt, Bytes::copy_from_slice(rt.alloc(), octets));
-    assert_rest(&case, &mut octets.into_source(), b"123");
-    assert_rest(&case, &mut shared.into_source(), b"123");
-    assert_rest(
+    let shared = case.done(Bytes::copy_from_slice(rt.alloc(), octets));
+    follow(&case, &mut octets.into_source(), &DIGITS);
+    follow(&case, &mut shared.into_source(), &DIGITS);
+    follow(
         &case,
         &mut sip(&rt, rt.alloc(), octets).into_source(),
-        b"123",
+        &DIGITS,
     );
 }
 
+/// Up to the limit, which is a clone's too.
+const CLONED: [Limit; 5] = [
+    Limit::Is(Some(4)),
+    Limit::Of(Step::Request(4, Some(4), 0)),
+    Limit::Of(Step::Slice(b"3456")),
+    Limit::Of(Step::OptOctet(Some(Some(b'3')))),
+    Limit::Of(Step::At("3")),
+];
+
 #[test]
 fn clones(rt: HostRuntime) {
-    let mut source = shared(&rt, rt.alloc(), b"12345678");
-    same(&rt, done(&rt, source.skip(2)), 2);
-    let mut limited = LimitedSource::new(source);
-    limited.set_limit(Some(4));
-    let mut twin = done(&rt, limited.clone());
-    same(&rt, twin.limit(), Some(4));
     let case = Case::new(&rt, rt.alloc(), 0);
-    assert_rest(&case, &mut twin, b"3456");
-    assert_at(&rt, rt.alloc(), &twin, "3");
-    assert_rest(&case, &mut limited, b"3456");
+    let mut limited = LimitedSource::new(shared(&rt, rt.alloc(), b"12345678"));
+    let front = [Limit::Of(Step::Skip(2, Some(2))), Limit::Set(Some(4))];
+    follow_limit(&case, &mut limited, &front);
+    let mut twin = case.done(limited.clone());
+    follow_limit(&case, &mut twin, &CLONED);
+    follow_limit(&case, &mut limited, &CLONED);
 }
 
 #[test]

@@ -4,6 +4,7 @@ mod bits;
 mod char_sets;
 mod refusals;
 mod restricted_strings;
+mod sets;
 mod string_octets;
 mod string_sources;
 mod strings;

@@ -1,8 +1,11 @@
 //! Decoding to the end of a source, and of contents octets, and octets that are lent, with values
 //! from outside.
+#![tactic(auto, using(bcder::specs::laws::Moved::steps))]
+
 ghost use Rattle.bcder.specs.calls.Views.{Moved};
 
 use crate::asserts::{Case, done, holds, same};
+use crate::captured::{Part, capture};
 use crate::over::{Row, check_all, failing_sip};
 use bcder::decode::{
     CaptureSource, Constructed, DecodeError, LendingSource, LimitedSource, SliceSource, Source,
@@ -11,51 +14,17 @@ use bcder::{Mode, Tag};
 use std::process::Abort;
 use support::decoding::take_empty;
 
-/// One empty value, or none, which is all of the source.
-#[tactic(auto, using(bcder::specs::laws::Moved::untouched_is_moved))]
-fn all_empty<S: Source + Drop>(source: S) -> Result<bool, DecodeError<S::Error>> {
-    Mode::Der.decode_all(source, |cons| take_empty(cons))
+/// What is decoded, and has to be all of a source.
+#[derive(Clone, Copy)]
+enum Way {
+    /// An empty value. It is true if there is one.
+    Empty,
+
+    /// A BOOLEAN in a SEQUENCE inside an OCTET STRING in a SEQUENCE. The octets are in this mode.
+    Inside(Mode),
 }
 
-#[test]
-fn the_end_is_asked_for(rt: HostRuntime) {
-    let mut failed = 0;
-    for number in 1..9 {
-        match all_empty(failing_sip(&rt, rt.alloc(), &[0x05, 0x00], number)) {
-            Ok(found) => holds(&rt, found),
-            Err(error) => {
-                holds(&rt, error.is_source());
-                failed = number;
-            }
-        }
-    }
-    // the header is asked for at least once, and the end once more
-    holds(&rt, failed >= 2);
-}
-
-#[tactic(auto, using(bcder::specs::laws::Moved::untouched_is_moved))]
-#[test]
-fn all_captured_values(rt: HostRuntime) {
-    let two: &[u8] = &[0x05, 0x00, 0x30, 0x00];
-    for (octets, wanted) in [(&two[..2], true), (two, false)] {
-        let captured = Mode::Der.decode(octets, |cons| cons.capture_all(rt.alloc()));
-        let found = done(&rt, captured).decode_all(|cons| take_empty(cons));
-        same(&rt, found.is_ok(), wanted);
-    }
-}
-
-/// A BOOLEAN in a SEQUENCE, which the octets of an OCTET STRING in a SEQUENCE are, in a mode.
-#[tactic(auto, using(bcder::specs::laws::Moved::untouched_is_moved))]
-fn take_inside<S: Source>(
-    inner: Mode,
-    cons: &mut Constructed<'_, S>,
-) -> Result<bool, DecodeError<S::Error>>
-    ensures { Moved S.stream cons }
-{
-    cons.take_sequence(|cons| take_octets(inner, cons))
-}
-
-#[tactic(auto, using(bcder::specs::laws::Moved::untouched_is_moved))]
+/// A BOOLEAN in a SEQUENCE, which the octets of an OCTET STRING are, in a mode.
 fn take_octets<S: Source>(
     inner: Mode,
     cons: &mut Constructed<'_, S>,
@@ -68,30 +37,57 @@ fn take_octets<S: Source>(
     )
 }
 
-/// The same, which is all of a source.
-#[tactic(auto, using(bcder::specs::laws::Moved::untouched_is_moved))]
-fn decode_inside<S: Source + Drop>(
+/// Takes what is decoded.
+fn take<S: Source>(cons: &mut Constructed<'_, S>, way: Way) -> Result<bool, DecodeError<S::Error>>
+    ensures { Moved S.stream cons }
+{
+    match way {
+        Way::Empty => take_empty(cons),
+        Way::Inside(inner) => cons.take_sequence(|cons| take_octets(inner, cons)),
+    }
+}
+
+/// Decodes all of a source in a mode.
+fn decode_all<S: Source + Drop>(
+    mode: Mode,
     source: S,
-    modes: (Mode, Mode),
+    way: Way,
 ) -> Result<bool, DecodeError<S::Error>> {
-    let (outer, inner) = modes;
-    outer.decode_all(source, |cons| take_inside(inner, cons))
+    mode.decode_all(source, |cons| take(cons, way))
 }
 
-/// What is decoded, and has to be all of a source.
-#[derive(Clone, Copy)]
-enum Way {
-    /// An empty value, in DER. It is true if there is one.
-    Empty,
-
-    /// A BOOLEAN in a SEQUENCE inside an OCTET STRING in a SEQUENCE, in these modes.
-    Inside(Mode, Mode),
+#[test]
+fn the_end_is_asked_for(rt: HostRuntime) {
+    let mut failed = 0;
+    for number in 1..9 {
+        let source = failing_sip(&rt, rt.alloc(), &[0x05, 0x00], number);
+        match decode_all(Mode::Der, source, Way::Empty) {
+            Ok(found) => holds(&rt, found),
+            Err(error) => {
+                holds(&rt, error.is_source());
+                failed = number;
+            }
+        }
+    }
+    // the header is asked for at least once, and the end once more
+    holds(&rt, failed >= 2);
 }
 
-/// Octets, what is decoded, and the text of what is found or of the error. Without a text, content
-/// is refused.
+#[test]
+fn all_captured_values(rt: HostRuntime) {
+    let case = Case::new(&rt, rt.alloc(), 0);
+    let two: &[u8] = &[0x05, 0x00, 0x30, 0x00];
+    for (octets, wanted) in [(&two[..2], true), (two, false)] {
+        let captured = capture(&case, Mode::Der, octets, Part::All);
+        let found = captured.decode_all(|cons| take_empty(cons));
+        case.same(found.is_ok(), wanted);
+    }
+}
+
+/// A mode, octets, what is decoded, and the text of what is found or of the error. Without a text,
+/// content is refused.
 #[derive(Clone, Copy)]
-struct Line(&'static [u8], Way, Option<&'static str>);
+struct Line(Mode, &'static [u8], Way, Option<&'static str>);
 
 /// FF is true in each mode; 2A in BER alone, whatever the mode around it; and an octet that is left
 /// behind the SEQUENCE inside.
@@ -104,60 +100,63 @@ const LEFT: &[u8] = &[0x30, 0x08, 0x04, 0x06, 0x30, 0x03, 0x01, 0x01, 0xFF, 0x00
 /// Behind NULL are an empty SEQUENCE, one octet, and octets that are no header; they are refused at
 /// the first of them. In the last row the SEQUENCE inside is longer than the OCTET STRING.
 const LINES: [Line; 11] = [
-    Line(&[0x05, 0x00], Way::Empty, Some("true")),
-    Line(&[], Way::Empty, Some("false")),
+    Line(Mode::Der, &[0x05, 0x00], Way::Empty, Some("true")),
+    Line(Mode::Der, &[], Way::Empty, Some("false")),
     Line(
+        Mode::Der,
         &[0x05, 0x00, 0x30, 0x00],
         Way::Empty,
         Some("trailing data (at position 2)"),
     ),
     Line(
+        Mode::Der,
         &[0x05, 0x00, 0x00],
         Way::Empty,
         Some("trailing data (at position 2)"),
     ),
     Line(
+        Mode::Der,
         &[0x05, 0x00, 0xFF, 0xFF, 0xFF, 0xFF],
         Way::Empty,
         Some("trailing data (at position 2)"),
     ),
-    Line(TRUE, Way::Inside(Mode::Der, Mode::Der), Some("true")),
-    Line(OTHER, Way::Inside(Mode::Der, Mode::Ber), Some("true")),
+    Line(Mode::Der, TRUE, Way::Inside(Mode::Der), Some("true")),
+    Line(Mode::Der, OTHER, Way::Inside(Mode::Ber), Some("true")),
     Line(
+        Mode::Der,
         OTHER,
-        Way::Inside(Mode::Der, Mode::Der),
+        Way::Inside(Mode::Der),
         Some("no boolean (at position 8)"),
     ),
     Line(
+        Mode::Ber,
         OTHER,
-        Way::Inside(Mode::Ber, Mode::Der),
+        Way::Inside(Mode::Der),
         Some("no boolean (at position 8)"),
     ),
     Line(
+        Mode::Der,
         LEFT,
-        Way::Inside(Mode::Der, Mode::Der),
+        Way::Inside(Mode::Der),
         Some("trailing data (at position 9)"),
     ),
     Line(
+        Mode::Der,
         &[
             0x30, 0x09, 0x04, 0x05, 0x30, 0x05, 0x01, 0x01, 0xFF, 0x05, 0x00,
         ],
-        Way::Inside(Mode::Der, Mode::Der),
+        Way::Inside(Mode::Der),
         None,
     ),
 ];
 
 impl Row for Line {
     fn octets(&self) -> &[u8] {
-        self.0
+        self.1
     }
 
     fn check<S: Source + Drop, R: Abort>(&self, case: &Case<'_, R>, source: S) {
-        let found = match self.1 {
-            Way::Empty => all_empty(source),
-            Way::Inside(outer, inner) => decode_inside(source, (outer, inner)),
-        };
-        match (found, self.2) {
+        match (decode_all(self.0, source, self.2), self.3) {
             (Ok(found), Some(text)) => case.shows(&found, text),
             (Err(error), Some(text)) => case.shows(&error, text),
             (Err(error), None) => case.holds(error.content_error().is_some()),
@@ -172,7 +171,6 @@ fn all_of_a_source(rt: HostRuntime) {
 }
 
 /// The octets of an OCTET STRING, lent.
-#[tactic(auto, using(bcder::specs::laws::Moved::untouched_is_moved))]
 fn take_lent<S: LendingSource>(
     cons: &mut Constructed<'_, S>,
 ) -> Result<S::Lent, DecodeError<S::Error>>
@@ -182,7 +180,6 @@ fn take_lent<S: LendingSource>(
 }
 
 /// Decodes an OCTET STRING, which has to be all of a source, and returns its octets, lent.
-#[tactic(auto, using(bcder::specs::laws::Moved::untouched_is_moved))]
 fn lent_of<S: LendingSource + Drop>(source: S) -> Result<S::Lent, DecodeError<S::Error>> {
     Mode::Der.decode_all(source, |cons| take_lent(cons))
 }

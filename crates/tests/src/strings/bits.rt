@@ -1,13 +1,15 @@
 //! Tests of bit strings: worked values, as they are read and written.
 #![tactic(auto, using(bcder::specs::laws::Moved::steps))]
 
+ghost use Rattle.bcder.specs.calls.Views.{Moved, MovedContent};
+
 use crate::asserts::Case;
-use crate::encodes::{Wanted, are_wanted, refuses};
-use crate::over::{Row, check_over, shared, sip};
-use crate::reading;
-use crate::reading::{Bits, Reader, Refusal};
-use bcder::decode::{Constructed, DecodeError, SliceSource, Source};
-use bcder::encode::{EncodeError, PrimitiveContent, Values};
+use crate::encodes::{self, are_wanted};
+use crate::over::{check_over, shared};
+use crate::reading::{Line, Look, Wanted};
+use bcder::decode::{Constructed, Content, DecodeError, Source};
+use bcder::encode::{EncodeError, Primitive, PrimitiveContent};
+use bcder::string::BitSliceEncoder;
 use bcder::{BitString, Mode, Tag};
 use bytes::Bytes;
 use std::alloc::Global;
@@ -26,36 +28,71 @@ enum Way {
 
 const WAYS: [Way; 4] = [Way::Take, Way::FromContent, Way::Skip, Way::SkipContent];
 
-/// Reads the next value, or returns `None` if it is skipped.
-impl Reader for Way {
-    type Value = Option<BitString>;
+/// Reads content, or skips it and returns `None`.
+fn read_content<S: Source>(
+    alloc: Global,
+    content: &mut Content<'_, S>,
+    way: Way,
+) -> Result<Option<BitString>, DecodeError<S::Error>>
+    ensures { MovedContent S.stream content }
+{
+    match way {
+        Way::FromContent => Ok(Some(BitString::from_content(alloc, content)?)),
+        _ => {
+            BitString::skip_content(content)?;
+            Ok(None)
+        }
+    }
+}
 
-    fn read<S: Source>(
+/// Reads the next value, or skips it and returns `None`.
+fn read<S: Source>(
+    alloc: Global,
+    cons: &mut Constructed<'_, S>,
+    way: Way,
+) -> Result<Option<BitString>, DecodeError<S::Error>>
+    ensures { Moved S.stream cons }
+{
+    match way {
+        Way::Take => Ok(Some(BitString::take_from(alloc, cons)?)),
+        Way::Skip => {
+            BitString::skip_in(cons)?;
+            Ok(None)
+        }
+        _ => cons.take_value_if(Tag::BIT_STRING, |content| read_content(alloc, content, way)),
+    }
+}
+
+/// A reader, and the unused count and the octets with the bits that it finds.
+#[derive(Clone, Copy)]
+struct Found<'a>(Way, u8, &'a [u8]);
+
+impl Found<'_> {
+    /// Returns whether a bit string that was read is as it should be.
+    fn is(self, bits: &BitString) -> bool {
+        match bits.octet_bytes() {
+            Ok(octets) => bits.unused() == self.1 && octets.as_slice() == self.2,
+            Err(_) => false,
+        }
+    }
+}
+
+impl Look for Found<'_> {
+    fn look<S: Source>(
         &mut self,
         alloc: Global,
         cons: &mut Constructed<'_, S>,
-    ) -> Result<Option<BitString>, DecodeError<S::Error>> {
-        match self {
-            Way::Take => Ok(Some(BitString::take_from(alloc, cons)?)),
-            Way::FromContent => Ok(Some(cons.take_value_if(
-                Tag::BIT_STRING,
-                |content| BitString::from_content(alloc, content),
-            )?)),
-            Way::Skip => {
-                BitString::skip_in(cons)?;
-                Ok(None)
-            }
-            Way::SkipContent => {
-                cons.take_value_if(Tag::BIT_STRING, |content| BitString::skip_content(content))?;
-                Ok(None)
-            }
+    ) -> Result<bool, DecodeError<S::Error>> {
+        match read(alloc, cons, self.0)? {
+            Some(bits) => Ok(self.is(&bits)),
+            None => Ok(true),
         }
     }
 }
 
 /// Octets, whether they are taken in BER, CER and DER, and then the unused count, the octets with
 /// the bits, and how many octets are left.
-type Line = (&'static [u8], [bool; 3], u8, &'static [u8], usize);
+type Row = (&'static [u8], [bool; 3], u8, &'static [u8], usize);
 
 const ALL: [bool; 3] = [true, true, true];
 
@@ -64,7 +101,7 @@ const BER: [bool; 3] = [true, false, false];
 const NONE: [bool; 3] = [false, false, false];
 
 /// What bcder is tested with, the example of X.690, 8.6.4.2, and octets that aren't bit strings.
-const LINES: [Line; 20] = [
+const ROWS: [Row; 20] = [
     (
         &[0x03, 0x07, 0x04, 0x64, 0x65, 0x61, 0x64, 0x62, 0xD0],
         ALL,
@@ -132,50 +169,20 @@ const LINES: [Line; 20] = [
     (&[0x23, 0x00], NONE, 0, &[], 0),
 ];
 
-/// A line in a mode, by a reader, and whether it is taken.
-#[derive(Clone, Copy)]
-struct Reading<'a>(&'a Line, Mode, Way, bool);
-
-impl Reading<'_> {
-    /// Checks a bit string that was read.
-    fn check_bits(&self, case: &Case<'_, impl Abort>, bits: BitString) {
-        case.same(bits.unused(), self.0.2);
-        let shared = case.done(bits.octet_bytes());
-        case.same(shared.as_slice(), self.0.3);
-    }
-}
-
-impl Row for Reading<'_> {
-    fn octets(&self) -> &[u8] {
-        self.0.0
-    }
-
-    fn check<S: Source + Drop, R: Abort>(&self, case: &Case<'_, R>, source: S) {
-        let mut source = source;
-        let (mut way, taken) = (self.2, self.3);
-        match reading::read(case.alloc, self.1, &mut source, &mut way) {
-            Ok(found) => {
-                case.holds(taken);
-                if let Some(bits) = found {
-                    self.check_bits(case, bits);
-                }
-            }
-            Err(refusal) => case.holds(!taken && refusal == Refusal::Content),
-        }
-        if taken {
-            case.same(case.done(source.request(64)), self.0.4);
-        }
-    }
-}
-
-/// Each reader returns what the line says, over each source.
+/// Each reader returns what the row says, over each source.
 #[test]
 fn values_that_are_read(rt: HostRuntime) {
-    for (row, line) in LINES.iter().enumerate() {
-        let [ber, cer, der] = line.1;
+    for (number, row) in ROWS.iter().enumerate() {
+        let [ber, cer, der] = row.1;
         for (mode, taken) in [(Mode::Ber, ber), (Mode::Cer, cer), (Mode::Der, der)] {
+            let wanted = if taken {
+                Wanted::Left(row.4)
+            } else {
+                Wanted::Refused
+            };
             for way in WAYS {
-                check_over(&rt, rt.alloc(), row, &Reading(line, mode, way, taken));
+                let line = Line(mode, row.0, Found(way, row.2, row.3), wanted);
+                check_over(&rt, rt.alloc(), number, &line);
             }
         }
     }
@@ -188,48 +195,33 @@ fn behind(case: &Case<'_, impl Abort>, front: &[u8], zeros: &[u8]) -> Vec<u8> {
     octets
 }
 
-/// Reads octets in a mode, and returns how many octets with bits they have, or `None` if they are
-/// refused.
-fn octets_read(case: &Case<'_, impl Abort>, mode: Mode, octets: &[u8]) -> Option<usize> {
-    let alloc = case.alloc;
-    let skipped = reading::read(alloc, mode, &mut SliceSource::new(octets), &mut Way::Skip);
-    let mut source = sip(case.rt, alloc, octets);
-    match reading::read(alloc, mode, &mut source, &mut Bits) {
-        Ok(bits) => {
-            case.holds(skipped.is_ok());
-            Some(bits.octet_len())
-        }
-        Err(_) => {
-            case.holds(skipped.is_err());
-            None
-        }
-    }
-}
-
-/// The octets of a bit string after those of its header and its unused count, a mode, and how many
-/// of them are read, if they are.
-const LONG: [(usize, Mode, Option<usize>); 4] = [
-    (999, Mode::Cer, Some(999)),
-    (1000, Mode::Cer, None),
-    (1000, Mode::Ber, Some(1000)),
-    (1000, Mode::Der, Some(1000)),
+/// The octets of a bit string after those of its header and its unused count, a mode, and whether
+/// they are read.
+const LONG: [(usize, Mode, bool); 4] = [
+    (999, Mode::Cer, true),
+    (1000, Mode::Cer, false),
+    (1000, Mode::Ber, true),
+    (1000, Mode::Der, true),
 ];
 
 /// Checks that a primitive string in CER has at most 1000 contents octets (X.690, 9.2).
 #[test]
 fn long_values_that_are_read(rt: HostRuntime) {
     let zeros = [0u8; 1000];
-    for (row, (len, mode, wanted)) in LONG.iter().enumerate() {
-        let case = Case::new(&rt, rt.alloc(), row);
-        let front = [
-            0x03,
-            0x82,
-            0x03,
-            if *len == 999 { 0xE8 } else { 0xE9 },
-            0x00,
-        ];
-        let octets = behind(&case, &front, &zeros[..(*len).min(1000)]);
-        case.same(octets_read(&case, *mode, &octets), *wanted);
+    for (number, (len, mode, taken)) in LONG.iter().enumerate() {
+        let zeros = &zeros[..(*len).min(1000)];
+        let low = if *len == 999 { 0xE8 } else { 0xE9 };
+        let case = Case::new(&rt, rt.alloc(), number);
+        let octets = behind(&case, &[0x03, 0x82, 0x03, low, 0x00], zeros);
+        let wanted = if *taken {
+            Wanted::Left(0)
+        } else {
+            Wanted::Refused
+        };
+        for way in [Way::Take, Way::Skip] {
+            let line = Line(*mode, octets.as_slice(), Found(way, 0, zeros), wanted);
+            check_over(&rt, rt.alloc(), number, &line);
+        }
     }
 }
 
@@ -269,7 +261,8 @@ fn octets_one_by_one(rt: HostRuntime) {
 /// Returns the bit string that octets are in BER.
 fn bits_of(case: &Case<'_, impl Abort>, octets: &[u8]) -> BitString {
     let mut source = shared(case.rt, case.alloc, octets);
-    case.done(reading::read(case.alloc, Mode::Ber, &mut source, &mut Bits))
+    let alloc = case.alloc;
+    case.done(Mode::Ber.decode_lent(&mut source, |cons| BitString::take_from(alloc, cons)))
 }
 
 /// Checks that unused bits are compared too.
@@ -287,12 +280,39 @@ fn equal_bit_strings(rt: HostRuntime) {
 
 // ---- writing
 
-/// Asserts that the values are written as these octets, which are the same in CER and in DER.
-fn are_bits<V: Values>(case: &Case<'_, impl Abort>, values: &V, basic: &[u8], strict: &[u8])
-    requires { V.can_encode values.now }
-{
-    let strict = Wanted::Octets(strict);
-    are_wanted(case, values, [Wanted::Octets(basic), strict, strict]);
+/// Asserts what octets do as a bit string.
+fn check_slice(
+    case: &Case<'_, impl Abort>,
+    bits: &BitSliceEncoder<&[u8]>,
+    wanted: [encodes::Wanted<'_>; 3],
+) {
+    are_wanted(case, bits, wanted);
+}
+
+/// Asserts what a bit string does that is handed over.
+fn check_owned(case: &Case<'_, impl Abort>, bits: BitString, basic: &[u8], strict: &[u8]) {
+    are_wanted(case, &bits.encode(), written(basic, strict));
+}
+
+/// Asserts what a bit string does that is lent.
+fn check_lent(
+    case: &Case<'_, impl Abort>,
+    bits: &Primitive<&BitString>,
+    wanted: [encodes::Wanted<'_>; 3],
+) {
+    are_wanted(case, bits, wanted);
+}
+
+/// What is written in BER, and in CER and DER.
+fn written<'a>(basic: &'a [u8], strict: &'a [u8]) -> [encodes::Wanted<'a>; 3] {
+    let strict = encodes::Wanted::Octets(strict);
+    [encodes::Wanted::Octets(basic), strict, strict]
+}
+
+/// What is refused in CER.
+fn refused(error: EncodeError) -> [encodes::Wanted<'static>; 3] {
+    let error = encodes::Wanted::Refused(error);
+    [encodes::Wanted::Any, error, encodes::Wanted::Any]
 }
 
 #[test]
@@ -300,9 +320,12 @@ fn unused_bits_as_they_are_written(rt: HostRuntime) {
     let case = Case::new(&rt, rt.alloc(), 0);
     let ones: &[u8] = &[0xFF];
     let (basic, strict) = ([0x03, 0x02, 0x04, 0xFF], [0x03, 0x02, 0x04, 0xF0]);
-    are_bits(&case, &BitString::encode_slice(ones, 4), &basic, &strict);
-    let whole = bits_of(&case, &basic);
-    are_bits(&case, &whole.encode(), &basic, &strict);
+    check_slice(
+        &case,
+        &BitString::encode_slice(ones, 4),
+        written(&basic, &strict),
+    );
+    check_owned(&case, bits_of(&case, &basic), &basic, &strict);
 }
 
 #[test]
@@ -312,9 +335,13 @@ fn bit_strings_of_several_octets(rt: HostRuntime) {
     let slice = BitString::encode_slice_as(octets, 4, Tag::CTX_2);
     let strict = [0x82, 0x07, 0x04, 0x0A, 0x3B, 0x5F, 0x29, 0x1C, 0xD0];
     let basic = [0x82, 0x07, 0x04, 0x0A, 0x3B, 0x5F, 0x29, 0x1C, 0xDF];
-    are_bits(&case, &slice, &basic, &strict);
+    check_slice(&case, &slice, written(&basic, &strict));
     let none = BitString::encode_slice(&octets[..0], 0);
-    are_bits(&case, &none, &[0x03, 0x01, 0x00], &[0x03, 0x01, 0x00]);
+    check_slice(
+        &case,
+        &none,
+        written(&[0x03, 0x01, 0x00], &[0x03, 0x01, 0x00]),
+    );
 }
 
 /// Returns a bit string of 999 octets `00` if `few`, else of 1000, without unused bits.
@@ -331,11 +358,11 @@ fn long_slices_in_cer(rt: HostRuntime) {
     let wanted = behind(&case, &[0x03, 0x82, 0x03, 0xE8, 0x00], &zeros[..999]);
     case.same(wanted.len(), 1004);
     let short = BitString::encode_slice(&zeros[..999], 0);
-    are_bits(&case, &short, &wanted, &wanted);
+    check_slice(&case, &short, written(&wanted, &wanted));
     let long = BitString::encode_slice(&zeros[..], 0);
-    refuses(&case, &long, Mode::Cer, EncodeError::LongCerBitString);
+    check_slice(&case, &long, refused(EncodeError::LongCerBitString));
     let marker = BitString::encode_slice_as(&zeros[..], 0, Tag::END_OF_VALUE);
-    refuses(&case, &marker, Mode::Cer, EncodeError::EndOfValueTag);
+    check_slice(&case, &marker, refused(EncodeError::EndOfValueTag));
 }
 
 #[test]
@@ -343,15 +370,14 @@ fn long_bit_strings_in_cer(rt: HostRuntime) {
     let case = Case::new(&rt, rt.alloc(), 0);
     let zeros = [0u8; 1000];
     let wanted = behind(&case, &[0x03, 0x82, 0x03, 0xE8, 0x00], &zeros[..999]);
-    let short = zeros_of(&case, &zeros, true);
-    are_bits(&case, &short.encode(), &wanted, &wanted);
+    check_owned(&case, zeros_of(&case, &zeros, true), &wanted, &wanted);
     let basic = behind(&case, &[0x03, 0x82, 0x03, 0xE9, 0x00], &zeros);
     let long = zeros_of(&case, &zeros, false);
-    let refused = Wanted::Refused(EncodeError::LongCerPrimitive);
-    let whole = Wanted::Octets(&basic);
-    are_wanted(&case, &long.encode_ref(), [whole, refused, whole]);
+    let whole = encodes::Wanted::Octets(&basic);
+    let in_cer = encodes::Wanted::Refused(EncodeError::LongCerPrimitive);
+    check_lent(&case, &long.encode_ref(), [whole, in_cer, whole]);
     let marker = long.encode_ref_as(Tag::END_OF_VALUE);
-    refuses(&case, &marker, Mode::Cer, EncodeError::EndOfValueTag);
+    check_lent(&case, &marker, refused(EncodeError::EndOfValueTag));
 }
 
 /// Checks contents octets without a header.

@@ -1,42 +1,11 @@
 //! Tests of character sets: which octets are strings, and which characters these spell (X.680, 41;
 //! RFC 3629).
+use super::sets::{Set, What, check, spelled};
 use super::string_octets::read;
 use crate::asserts::Case;
-use bcder::string::{
-    CharSet, Ia5CharSet, NumericCharSet, OctetStringOctets, PrintableCharSet, StringError,
-    Utf8CharSet,
-};
+use bcder::string::{CharSet, Utf8CharSet};
 use std::process::Abort;
 use std::str;
-use user::latin_1::Latin1;
-
-/// Returns the characters of octets, in order, or `None` if they aren't a string of the set.
-fn spelled<L: CharSet>(
-    case: &Case<'_, impl Abort>,
-    octets: OctetStringOctets<'_>,
-    len: usize,
-) -> Option<String> {
-    let mut octets = octets;
-    let mut text = String::new(case.alloc);
-    for _ in 0..=len {
-        match L::next_char(&mut octets) {
-            Ok(Some(character)) => case.done(text.push(character)),
-            Ok(None) => return Some(text),
-            Err(_) => return None,
-        }
-    }
-    None
-}
-
-/// Checks that octets spell a text of the set, or aren't one of its strings.
-fn spell<L: CharSet>(case: &Case<'_, impl Abort>, octets: &[u8], wanted: Option<&str>) {
-    let found = spelled::<L>(case, OctetStringOctets::new(octets), octets.len());
-    case.same(found.as_deref(), wanted);
-    case.same(
-        L::check(OctetStringOctets::new(octets)).is_ok(),
-        wanted.is_some(),
-    );
-}
 
 // ---- UTF-8
 
@@ -72,7 +41,11 @@ const BOUNDARIES: [(&[u8], Option<&str>); 24] = [
 #[test]
 fn utf8_at_its_boundaries(rt: HostRuntime) {
     for (row, (octets, text)) in BOUNDARIES.iter().enumerate() {
-        spell::<Utf8CharSet>(&Case::new(&rt, rt.alloc(), row), *octets, *text);
+        check(
+            &Case::new(&rt, rt.alloc(), row),
+            Set::Utf8,
+            What::Spell(*octets, *text),
+        );
     }
 }
 
@@ -85,7 +58,8 @@ fn utf8_as_std_has_it(rt: HostRuntime) {
             let octets = [first, second, 0xBF, 0x80];
             for len in 1..=4 {
                 let octets = &octets[..len];
-                spell::<Utf8CharSet>(&case, octets, str::from_utf8(octets).ok());
+                let text = str::from_utf8(octets).ok();
+                check(&case, Set::Utf8, What::Spell(octets, text));
             }
         }
     }
@@ -139,92 +113,50 @@ const PRINTABLE: &[u8] =
     b"ABCDEFGHIJKLMNOPQRSTUVWXYZabcdefghijklmnopqrstuvwxyz0123456789 '()+,-./:=?";
 
 /// Checks that one octet is the character with its number, if the set has that.
-fn has<L: CharSet>(case: &Case<'_, impl Abort>, octet: u8, wanted: bool) {
+fn has(case: &Case<'_, impl Abort>, set: Set, octet: u8, wanted: bool) {
     let mut text = String::new(case.alloc);
     case.done(text.push(octet as char));
     let wanted = if wanted { Some(text.as_str()) } else { None };
-    spell::<L>(case, &[octet], wanted);
+    check(case, set, What::Spell(&[octet], wanted));
 }
 
 #[test]
 fn each_octet_is_a_character_or_none(rt: HostRuntime) {
     for octet in 0..=255u8 {
         let case = Case::new(&rt, rt.alloc(), usize::from(octet));
-        has::<NumericCharSet>(&case, octet, NUMERIC.contains(&octet));
-        has::<PrintableCharSet>(&case, octet, PRINTABLE.contains(&octet));
-        has::<Ia5CharSet>(&case, octet, octet < 0x80);
-        has::<Latin1>(&case, octet, true);
+        has(&case, Set::Numeric, octet, NUMERIC.contains(&octet));
+        has(&case, Set::Printable, octet, PRINTABLE.contains(&octet));
+        has(&case, Set::Ia5, octet, octet < 0x80);
+        has(&case, Set::Latin1, octet, true);
     }
-}
-
-/// Checks that a text gives these octets, or that the set lacks one of its characters.
-fn give<L: CharSet>(case: &Case<'_, impl Abort>, text: &str, wanted: Option<&[u8]>) {
-    match L::from_str(case.alloc, text) {
-        Ok(octets) => case.same(Some(octets.as_slice()), wanted),
-        Err(error) => {
-            case.same(error, StringError::CharSet);
-            case.holds(wanted.is_none());
-        }
-    }
-}
-
-/// A set.
-#[derive(Clone, Copy)]
-pub enum Set {
-    Utf8,
-    Numeric,
-    Printable,
-    Ia5,
-    Latin1,
 }
 
 /// Octets of a set, and what they spell, if they are one of its strings. The first octet counts,
-/// and so do those after it.
-const SPELLED: [(Set, &[u8], Option<&str>); 5] = [
-    (Set::Numeric, b"12 34", Some("12 34")),
-    (Set::Numeric, b"12a", None),
-    (Set::Printable, b"*ab", None),
-    (Set::Printable, b"a@b", None),
-    (Set::Ia5, b"a@\x80", None),
+/// and so do those after it. Then texts, and the octets that they have in a set, if it has all of
+/// their characters.
+const LINES: [(Set, What<'_>); 14] = [
+    (Set::Numeric, What::Spell(b"12 34", Some("12 34"))),
+    (Set::Numeric, What::Spell(b"12a", None)),
+    (Set::Printable, What::Spell(b"*ab", None)),
+    (Set::Printable, What::Spell(b"a@b", None)),
+    (Set::Ia5, What::Spell(b"a@\x80", None)),
+    (
+        Set::Utf8,
+        What::Give("é€", Some(&[0xC3, 0xA9, 0xE2, 0x82, 0xAC])),
+    ),
+    (Set::Numeric, What::Give("1 2", Some(b"1 2"))),
+    (Set::Printable, What::Give("A+b", Some(b"A+b"))),
+    (Set::Ia5, What::Give("a@b", Some(b"a@b"))),
+    (Set::Latin1, What::Give("aÿ", Some(&[0x61, 0xFF]))),
+    (Set::Numeric, What::Give("12-3", None)),
+    (Set::Printable, What::Give("a@b", None)),
+    (Set::Ia5, What::Give("é", None)),
+    (Set::Latin1, What::Give("aĀ", None)),
 ];
 
 #[test]
-fn each_octet_counts(rt: HostRuntime) {
-    for (row, (set, octets, wanted)) in SPELLED.iter().enumerate() {
-        let case = Case::new(&rt, rt.alloc(), row);
-        match set {
-            Set::Utf8 => spell::<Utf8CharSet>(&case, *octets, *wanted),
-            Set::Numeric => spell::<NumericCharSet>(&case, *octets, *wanted),
-            Set::Printable => spell::<PrintableCharSet>(&case, *octets, *wanted),
-            Set::Ia5 => spell::<Ia5CharSet>(&case, *octets, *wanted),
-            Set::Latin1 => spell::<Latin1>(&case, *octets, *wanted),
-        }
-    }
-}
-
-/// Texts, and the octets that they have in a set, if it has all of their characters.
-const GIVEN: [(Set, &str, Option<&[u8]>); 9] = [
-    (Set::Utf8, "é€", Some(&[0xC3, 0xA9, 0xE2, 0x82, 0xAC])),
-    (Set::Numeric, "1 2", Some(b"1 2")),
-    (Set::Printable, "A+b", Some(b"A+b")),
-    (Set::Ia5, "a@b", Some(b"a@b")),
-    (Set::Latin1, "aÿ", Some(&[0x61, 0xFF])),
-    (Set::Numeric, "12-3", None),
-    (Set::Printable, "a@b", None),
-    (Set::Ia5, "é", None),
-    (Set::Latin1, "aĀ", None),
-];
-
-#[test]
-fn a_text_has_octets_or_none(rt: HostRuntime) {
-    for (row, (set, text, wanted)) in GIVEN.iter().enumerate() {
-        let case = Case::new(&rt, rt.alloc(), row);
-        match set {
-            Set::Utf8 => give::<Utf8CharSet>(&case, *text, *wanted),
-            Set::Numeric => give::<NumericCharSet>(&case, *text, *wanted),
-            Set::Printable => give::<PrintableCharSet>(&case, *text, *wanted),
-            Set::Ia5 => give::<Ia5CharSet>(&case, *text, *wanted),
-            Set::Latin1 => give::<Latin1>(&case, *text, *wanted),
-        }
+fn octets_and_texts(rt: HostRuntime) {
+    for (row, (set, what)) in LINES.iter().enumerate() {
+        check(&Case::new(&rt, rt.alloc(), row), *set, *what);
     }
 }

@@ -2,9 +2,9 @@
 //! allocate for octets that mean something.
 #![tactic(auto, using(bcder::specs::laws::Moved::steps))]
 
-use crate::asserts::{Case, done};
-use crate::over::{Row, check_all, check_over};
-use crate::reading::{Reader, Refusal, read};
+use crate::asserts::done;
+use crate::over::{check_all, check_over};
+use crate::reading::{Line, Look, Wanted};
 use bcder::decode::{Constructed, DecodeError, Source};
 use bcder::string::Utf8String;
 use bcder::{BitString, Integer, Mode, OctetString, Oid, Unsigned};
@@ -25,22 +25,20 @@ enum Kind {
 }
 
 /// Drops what a reader returned, if it isn't an error.
-fn dropped<T: Drop, E>(found: Result<T, E>) -> Result<(), E> {
+fn dropped<T: Drop, E>(found: Result<T, E>) -> Result<bool, E> {
     match found {
-        Ok(_) => Ok(()),
+        Ok(_) => Ok(true),
         Err(error) => Err(error),
     }
 }
 
 /// Reads the next value, and drops what is read.
-impl Reader for Kind {
-    type Value = ();
-
-    fn read<S: Source>(
+impl Look for Kind {
+    fn look<S: Source>(
         &mut self,
         alloc: Global,
         cons: &mut Constructed<'_, S>,
-    ) -> Result<(), DecodeError<S::Error>> {
+    ) -> Result<bool, DecodeError<S::Error>> {
         match self {
             Kind::Integer => dropped(Integer::take_from(alloc, cons)),
             Kind::Unsigned => dropped(Unsigned::take_from(alloc, cons)),
@@ -54,48 +52,83 @@ impl Reader for Kind {
     }
 }
 
-/// A mode, octets, and a reader that refuses them for what they are.
-#[derive(Clone, Copy)]
-struct Line<'a>(Mode, &'a [u8], Kind);
-
-const LINES: [Line<'_>; 15] = [
+/// Octets, and a reader that refuses them for what they are.
+const LINES: [Line<'_, Kind>; 15] = [
     // no number, identifier or bits
-    Line(Mode::Ber, &[0x02, 0x02, 0x00, 0x05], Kind::Integer),
-    Line(Mode::Der, &[0x02, 0x01, 0x80], Kind::Unsigned),
-    Line(Mode::Der, &[0x06, 0x01, 0x80], Kind::Oid),
-    Line(Mode::Der, &[0x03, 0x02, 0x03, 0xFF], Kind::Bits),
+    Line(
+        Mode::Ber,
+        &[0x02, 0x02, 0x00, 0x05],
+        Kind::Integer,
+        Wanted::Refused,
+    ),
+    Line(
+        Mode::Der,
+        &[0x02, 0x01, 0x80],
+        Kind::Unsigned,
+        Wanted::Refused,
+    ),
+    Line(Mode::Der, &[0x06, 0x01, 0x80], Kind::Oid, Wanted::Refused),
+    Line(
+        Mode::Der,
+        &[0x03, 0x02, 0x03, 0xFF],
+        Kind::Bits,
+        Wanted::Refused,
+    ),
     // no string
-    Line(Mode::Der, &[0x24, 0x03, 0x04, 0x01, 0x61], Kind::Octets),
-    Line(Mode::Ber, &[0x24, 0x03, 0x02, 0x01, 0x05], Kind::Octets),
+    Line(
+        Mode::Der,
+        &[0x24, 0x03, 0x04, 0x01, 0x61],
+        Kind::Octets,
+        Wanted::Refused,
+    ),
+    Line(
+        Mode::Ber,
+        &[0x24, 0x03, 0x02, 0x01, 0x05],
+        Kind::Octets,
+        Wanted::Refused,
+    ),
     Line(
         Mode::Cer,
         &[0x24, 0x80, 0x04, 0x01, 0x61, 0x00, 0x00],
         Kind::Octets,
+        Wanted::Refused,
     ),
-    Line(Mode::Der, &[0x02, 0x01, 0x05], Kind::Octets),
+    Line(
+        Mode::Der,
+        &[0x02, 0x01, 0x05],
+        Kind::Octets,
+        Wanted::Refused,
+    ),
     // no characters
-    Line(Mode::Der, &[0x0C, 0x02, 0xC3, 0xE9], Kind::Utf8),
-    Line(Mode::Ber, &[0x2C, 0x04, 0x04, 0x02, 0xC3, 0xE9], Kind::Utf8),
-    Line(Mode::Der, &[0x2C, 0x03, 0x04, 0x01, 0x61], Kind::Utf8),
-    Line(Mode::Der, &[0x04, 0x01, 0x61], Kind::Utf8),
+    Line(
+        Mode::Der,
+        &[0x0C, 0x02, 0xC3, 0xE9],
+        Kind::Utf8,
+        Wanted::Refused,
+    ),
+    Line(
+        Mode::Ber,
+        &[0x2C, 0x04, 0x04, 0x02, 0xC3, 0xE9],
+        Kind::Utf8,
+        Wanted::Refused,
+    ),
+    Line(
+        Mode::Der,
+        &[0x2C, 0x03, 0x04, 0x01, 0x61],
+        Kind::Utf8,
+        Wanted::Refused,
+    ),
+    Line(Mode::Der, &[0x04, 0x01, 0x61], Kind::Utf8, Wanted::Refused),
     // not there
-    Line(Mode::Der, &[], Kind::One),
-    Line(Mode::Der, &[0x04, 0x05, 0x01], Kind::One),
-    Line(Mode::Ber, &[0x02, 0x01, 0x05, 0x04, 0x05, 0x01], Kind::All),
+    Line(Mode::Der, &[], Kind::One, Wanted::Refused),
+    Line(Mode::Der, &[0x04, 0x05, 0x01], Kind::One, Wanted::Refused),
+    Line(
+        Mode::Ber,
+        &[0x02, 0x01, 0x05, 0x04, 0x05, 0x01],
+        Kind::All,
+        Wanted::Refused,
+    ),
 ];
-
-impl Row for Line<'_> {
-    fn octets(&self) -> &[u8] {
-        self.1
-    }
-
-    fn check<S: Source + Drop, R: Abort>(&self, case: &Case<'_, R>, source: S) {
-        let mut source = source;
-        let mut kind = self.2;
-        let found = read(case.alloc, self.0, &mut source, &mut kind);
-        case.same(found, Err(Refusal::Content));
-    }
-}
 
 #[test]
 fn octets_that_mean_nothing(rt: HostRuntime) {
@@ -120,7 +153,7 @@ fn a_long_string_in_one_piece(rt: HostRuntime) {
         .enumerate()
     {
         let octets = piece(&rt, rt.alloc(), *tag);
-        let line = Line(Mode::Cer, octets.as_slice(), *kind);
+        let line = Line(Mode::Cer, octets.as_slice(), *kind, Wanted::Refused);
         check_over(&rt, rt.alloc(), row, &line);
     }
 }

@@ -1,7 +1,5 @@
 //! Tests of octet strings by their octets, whether they were cut or not.
 use crate::asserts::Case;
-use crate::reading;
-use crate::reading::Octets;
 use bcder::decode::SliceSource;
 use bcder::{Mode, OctetString};
 use bytes::Bytes;
@@ -100,15 +98,25 @@ const ORDERED: [&[u8]; 9] = [
     &[0xFF],
 ];
 
-/// Checks that two of them are compared by their octets.
-fn check_pair(case: &Case<'_, impl Abort>, one: (usize, &[u8]), other: (usize, &[u8])) {
-    let x = whole(case, one.1);
-    let y = whole(case, other.1);
-    case.same(x.cmp(&y), one.0.cmp(&other.0));
-    case.same(x.cmp_octets(other.1), one.0.cmp(&other.0));
-    case.same(x == y, one.0 == other.0);
-    case.same(x.eq_octets(other.1), one.0 == other.0);
-    case.same(hashes_of(&x) == hashes_of(&y), one.0 == other.0);
+/// Checks how two strings compare, and that equal ones alone have one hash.
+fn check_strings(
+    case: &Case<'_, impl Abort>,
+    one: &OctetString,
+    other: &OctetString,
+    order: Ordering,
+) {
+    let equal = order == Ordering::Equal;
+    case.same(one.cmp(other), order);
+    case.same(other.cmp(one), order.reverse());
+    case.same(*one == *other, equal);
+    case.same(hashes_of(one) == hashes_of(other), equal);
+}
+
+/// Checks how a string compares with octets, and with a string of them in one piece.
+fn check_order(case: &Case<'_, impl Abort>, string: &OctetString, octets: &[u8], order: Ordering) {
+    check_strings(case, string, &whole(case, octets), order);
+    case.same(string.cmp_octets(octets), order);
+    case.same(string.eq_octets(octets), order == Ordering::Equal);
 }
 
 #[test]
@@ -116,7 +124,8 @@ fn strings_in_their_order(rt: HostRuntime) {
     for one in ORDERED.iter().enumerate() {
         let case = Case::new(&rt, rt.alloc(), one.0);
         for other in ORDERED.iter().enumerate() {
-            check_pair(&case, (one.0, *one.1), (other.0, *other.1));
+            let order = one.0.cmp(&other.0);
+            check_order(&case, &whole(&case, *one.1), *other.1, order);
         }
     }
 }
@@ -163,9 +172,11 @@ fn no_hasher_is_called_for_each_octet(rt: HostRuntime) {
 // ---- strings that were cut
 
 /// Reads a string in a mode.
+#[tactic(auto, using(bcder::specs::laws::Moved::steps))]
 pub(crate) fn read_in(case: &Case<'_, impl Abort>, mode: Mode, encoding: &[u8]) -> OctetString {
     let mut source = SliceSource::new(encoding);
-    case.done(reading::read(case.alloc, mode, &mut source, &mut Octets))
+    let alloc = case.alloc;
+    case.done(mode.decode_lent(&mut source, |cons| OctetString::take_from(alloc, cons)))
 }
 
 /// Reads a string in BER.
@@ -225,23 +236,12 @@ pub(crate) fn cut(
     of_segments(case, content.as_slice())
 }
 
-/// Checks that a string that was cut is compared as it would be in one piece.
-fn check_order(case: &Case<'_, impl Abort>, string: &OctetString, octets: &[u8], order: Ordering) {
-    let other = whole(case, octets);
-    case.same(string.cmp(&other), order);
-    case.same(other.cmp(string), order.reverse());
-    case.same(string.cmp_octets(octets), order);
-    case.same(*string == other, order == Ordering::Equal);
-    case.same(string.eq_octets(octets), order == Ordering::Equal);
-}
-
 /// Checks `abcdef`, cut in one way.
 fn check_cut(case: &Case<'_, impl Abort>, ends: u8, empty: usize) {
     let string = cut(case, b"abcdef", ends, empty);
     check_order(case, &string, b"abcde", Ordering::Greater);
     check_order(case, &string, b"abcdef", Ordering::Equal);
     check_order(case, &string, b"abcdeg", Ordering::Less);
-    case.same(hashes_of(&string), hashes_of(&whole(case, b"abcdef")));
     check_octets(case, string, b"abcdef");
 }
 
@@ -260,11 +260,9 @@ fn cut_in_every_way(rt: HostRuntime) {
 fn check_cuts(case: &Case<'_, impl Abort>, one: u8, other: u8) {
     let string = cut(case, b"abcdef", one, 1);
     let equal = cut(case, b"abcdef", other, 0);
-    case.same(string.cmp(&equal), Ordering::Equal);
-    case.holds(string == equal);
+    check_strings(case, &string, &equal, Ordering::Equal);
     let greater = cut(case, b"abcdeg", other, 2);
-    case.same(string.cmp(&greater), Ordering::Less);
-    case.holds(string != greater);
+    check_strings(case, &string, &greater, Ordering::Less);
 }
 
 #[test]

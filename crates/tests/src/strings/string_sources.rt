@@ -1,48 +1,69 @@
 //! Tests of octet strings as sources.
 use super::string_octets::{cut, read, whole};
 use crate::asserts::Case;
-use bcder::decode::{IntoSource, Source};
+use crate::steps::{Step, follow};
+use bcder::decode::IntoSource;
 use bcder::{Mode, OctetString};
 use std::process::Abort;
 
-/// Checks that a string gives these octets one by one.
-fn check_one_by_one(case: &Case<'_, impl Abort>, string: OctetString, wanted: &[u8]) {
-    let mut source = string.into_source();
-    for octet in wanted {
-        case.holds(case.done(source.request(1)) > 0);
-        case.same(case.done(source.take_opt_u8()), Some(*octet));
-    }
-    case.same(case.done(source.request(1)), 0);
-    case.same(case.done(source.take_opt_u8()), None);
+/// Checks what the source of a string answers.
+fn check(case: &Case<'_, impl Abort>, string: OctetString, steps: &[Step]) {
+    follow(case, &mut string.into_source(), steps);
 }
 
-/// Checks that a string gives several octets at once, after the first ones.
-fn check_at_once(case: &Case<'_, impl Abort>, string: OctetString, passed: usize, wanted: &[u8]) {
-    let mut source = string.into_source();
-    case.same(case.done(source.skip(passed)), passed);
-    let found = case.done(source.request(wanted.len()));
-    case.same(found, wanted.len());
-    case.same(source.slice(), wanted);
-    let shared = case.done(source.bytes(case.alloc, 0, found));
-    case.same(shared.as_slice(), wanted);
-    case.same(source.slice(), wanted);
-    case.same(case.done(source.request(wanted.len() + 1)), wanted.len());
-}
+/// The octets `abcdef`, one by one.
+const ONE_BY_ONE: [Step; 14] = [
+    Step::Least(1),
+    Step::OptOctet(Some(Some(b'a'))),
+    Step::Least(1),
+    Step::OptOctet(Some(Some(b'b'))),
+    Step::Least(1),
+    Step::OptOctet(Some(Some(b'c'))),
+    Step::Least(1),
+    Step::OptOctet(Some(Some(b'd'))),
+    Step::Least(1),
+    Step::OptOctet(Some(Some(b'e'))),
+    Step::Least(1),
+    Step::OptOctet(Some(Some(b'f'))),
+    Step::Request(1, Some(0), 0),
+    Step::OptOctet(Some(None)),
+];
 
-/// Checks `abcdef`, cut in one way.
-fn check_cut(case: &Case<'_, impl Abort>, ends: u8, empty: usize) {
-    check_one_by_one(case, cut(case, b"abcdef", ends, empty), b"abcdef");
-    check_at_once(case, cut(case, b"abcdef", ends, empty), 0, b"abcdef");
-    check_at_once(case, cut(case, b"abcdef", ends, empty), 2, b"cdef");
-}
+/// No octet.
+const NONE: [Step; 2] = [Step::Request(1, Some(0), 0), Step::OptOctet(Some(None))];
 
-/// Checks all 32 ways, each with an empty segment at each place, or with none.
+/// All octets at once, and all after the first two.
+const AT_ONCE: [Step; 6] = [
+    Step::Skip(0, Some(0)),
+    Step::Request(6, Some(6), 0),
+    Step::Slice(b"abcdef"),
+    Step::Bytes(b"abcdef"),
+    Step::Slice(b"abcdef"),
+    Step::Request(7, Some(6), 0),
+];
+
+const AFTER_TWO: [Step; 6] = [
+    Step::Skip(2, Some(2)),
+    Step::Request(4, Some(4), 0),
+    Step::Slice(b"cdef"),
+    Step::Bytes(b"cdef"),
+    Step::Slice(b"cdef"),
+    Step::Request(5, Some(4), 0),
+];
+
+/// Checks all 32 ways to cut `abcdef`, each with an empty segment at each place, or with none.
 #[test]
 fn cut_in_every_way(rt: HostRuntime) {
     for ends in 32..64u8 {
         let case = Case::new(&rt, rt.alloc(), usize::from(ends));
         for empty in 0..8 {
-            check_cut(&case, ends, empty);
+            for steps in [
+                ONE_BY_ONE.as_slice(),
+                AT_ONCE.as_slice(),
+                AFTER_TWO.as_slice(),
+            ] {
+                check(&case, cut(&case, b"abcdef", ends, empty), steps);
+            }
         }
     }
 }
@@ -50,22 +71,35 @@ fn cut_in_every_way(rt: HostRuntime) {
 #[test]
 fn in_one_piece(rt: HostRuntime) {
     let case = Case::new(&rt, rt.alloc(), 0);
-    check_one_by_one(&case, whole(&case, b"abcdef"), b"abcdef");
-    check_at_once(&case, whole(&case, b"abcdef"), 2, b"cdef");
-    check_one_by_one(&case, whole(&case, b""), b"");
+    check(&case, whole(&case, b"abcdef"), &ONE_BY_ONE);
+    check(&case, whole(&case, b"abcdef"), &AFTER_TWO);
+    check(&case, whole(&case, b""), &NONE);
 }
 
-/// Checks that parts are joined only if more octets are requested than one holds.
+/// Parts are joined only if more octets are requested than one holds.
+const LENT: [Step; 5] = [
+    Step::Request(1, Some(2), 0),
+    Step::Slice(b"ab"),
+    Step::Request(2, Some(2), 0),
+    Step::Request(3, Some(3), 0),
+    Step::Slice(b"abc"),
+];
+
+/// The position is that among the octets of the string.
+const POSITIONS: [Step; 5] = [
+    Step::At("0"),
+    Step::Skip(5, Some(5)),
+    Step::At("5"),
+    Step::Skip(2, Some(1)),
+    Step::At("6"),
+];
+
 #[test]
-fn a_segment_is_lent(rt: HostRuntime) {
+fn segments_and_positions(rt: HostRuntime) {
     let case = Case::new(&rt, rt.alloc(), 0);
     let encoding = [0x24, 0x07, 0x04, 0x02, 0x61, 0x62, 0x04, 0x01, 0x63];
-    let mut source = read(&case, &encoding).into_source();
-    case.same(case.done(source.request(1)), 2);
-    case.same(source.slice(), b"ab");
-    case.same(case.done(source.request(2)), 2);
-    case.same(case.done(source.request(3)), 3);
-    case.same(source.slice(), b"abc");
+    check(&case, read(&case, &encoding), &LENT);
+    check(&case, cut(&case, b"abcdef", 42, 1), &POSITIONS);
 }
 
 /// Returns the number that the octets of a string encode.
@@ -84,16 +118,4 @@ fn a_string_is_decoded(rt: HostRuntime) {
         let string = read(&case, &encoding);
         case.same(number_in(&case, *mode, string), 5);
     }
-}
-
-/// Checks that the position is that among the octets of the string.
-#[test]
-fn positions(rt: HostRuntime) {
-    let case = Case::new(&rt, rt.alloc(), 0);
-    let mut source = cut(&case, b"abcdef", 42, 1).into_source();
-    case.shows(&source.pos(), "0");
-    case.same(case.done(source.skip(5)), 5);
-    case.shows(&source.pos(), "5");
-    case.same(case.done(source.skip(2)), 1);
-    case.shows(&source.pos(), "6");
 }

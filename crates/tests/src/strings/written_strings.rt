@@ -4,8 +4,9 @@ ghost use Rattle.std.specs.Prelude.{◌<◌};
 
 use super::string_octets::{read, read_in, whole};
 use crate::asserts::Case;
-use crate::encodes::{Wanted, are_wanted, writes};
+use crate::encodes::{Wanted, are_wanted};
 use bcder::encode::{EncodeError, PrimitiveContent, Values, write_header};
+use bcder::string::{OctetSliceEncoder, OctetStringEncoder};
 use bcder::{Captured, Mode, OctetString, Tag};
 use std::process::Abort;
 use support::encoders::{Nulls, Zeros};
@@ -118,29 +119,51 @@ const SEGMENTED: [(usize, &[u8], &[(&[u8], usize)]); 9] = [
     ),
 ];
 
-/// Checks that a string is written so in CER and DER, however it was cut.
-fn check_string(case: &Case<'_, impl Abort>, string: &OctetString, cer: &[u8], der: &[u8]) {
-    writes(case, &string.encode_ref(), Mode::Cer, cer);
-    writes(case, &string.encode_ref(), Mode::Der, der);
+/// Asserts what a string does that is lent.
+fn check_lent(
+    case: &Case<'_, impl Abort>,
+    string: &OctetStringEncoder<&OctetString>,
+    wanted: [Wanted<'_>; 3],
+) {
+    are_wanted(case, string, wanted);
+}
+
+/// Asserts what a string does that is handed over.
+fn check_owned(
+    case: &Case<'_, impl Abort>,
+    string: &OctetStringEncoder<OctetString>,
+    wanted: [Wanted<'_>; 3],
+) {
+    are_wanted(case, string, wanted);
+}
+
+/// Asserts what octets do as a string.
+fn check_slice(
+    case: &Case<'_, impl Abort>,
+    octets: &OctetSliceEncoder<&[u8]>,
+    wanted: [Wanted<'_>; 3],
+) {
+    are_wanted(case, octets, wanted);
 }
 
 /// Checks octets, and strings of them, however these were cut. They are written in segments in CER
 /// and in one piece in DER, as octets are in BER. What is written in CER is read, and written back
 /// unchanged.
-fn check_segments(case: &Case<'_, impl Abort>, octets: &[u8], cer: &[u8], der: &[u8]) {
+fn check_segments<'x>(case: &Case<'_, impl Abort>, octets: &[u8], cer: &'x [u8], der: &'x [u8]) {
     let (pieces, piece) = (Wanted::Octets(cer), Wanted::Octets(der));
-    are_wanted(
+    let strict = [Wanted::Any, pieces, piece];
+    check_slice(
         case,
         &OctetString::encode_slice(octets),
         [piece, pieces, piece],
     );
-    check_string(case, &whole(case, octets), cer, der);
+    check_lent(case, &whole(case, octets).encode_ref(), strict);
     for each in [7, 300, 999, 1000, 1001, 3000] {
-        check_string(case, &cut(case, octets, each), cer, der);
+        check_lent(case, &cut(case, octets, each).encode_ref(), strict);
     }
     let string = read_in(case, Mode::Cer, cer);
     case.holds(string.eq_octets(octets));
-    writes(case, &string.encode(), Mode::Cer, cer);
+    check_owned(case, &string.encode(), [Wanted::Any, pieces, Wanted::Any]);
 }
 
 #[test]
@@ -206,8 +229,13 @@ fn strings_as_they_came(rt: HostRuntime) {
     for (row, [octets, ber, cer, der]) in CAME.iter().enumerate() {
         let case = Case::new(&rt, rt.alloc(), row);
         let string = read(&case, *octets);
-        check_string(&case, &string, *cer, *der);
-        writes(&case, &string.encode(), Mode::Ber, *ber);
+        let (cer, der) = (Wanted::Octets(*cer), Wanted::Octets(*der));
+        check_lent(&case, &string.encode_ref(), [Wanted::Any, cer, der]);
+        check_owned(
+            &case,
+            &string.encode(),
+            [Wanted::Octets(*ber), Wanted::Any, Wanted::Any],
+        );
     }
 }
 
@@ -216,12 +244,19 @@ fn strings_under_another_tag(rt: HostRuntime) {
     let case = Case::new(&rt, rt.alloc(), 0);
     let octets = [0x24, 0x07, 0x04, 0x00, 0x04, 0x00, 0x04, 0x01, 0x61];
     let string = read(&case, octets.as_slice());
-    let encoder = string.encode_ref_as(Tag::CTX_0);
     let basic = Wanted::Octets(&[0xA0, 0x07, 0x04, 0x00, 0x04, 0x00, 0x04, 0x01, 0x61]);
     let strict = Wanted::Octets(&[0x80, 0x01, 0x61]);
-    are_wanted(&case, &encoder, [basic, strict, strict]);
-    let encoder = string.encode_as(Tag::CTX_1);
-    writes(&case, &encoder, Mode::Cer, &[0x81, 0x01, 0x61]);
+    check_lent(
+        &case,
+        &string.encode_ref_as(Tag::CTX_0),
+        [basic, strict, strict],
+    );
+    let strict = Wanted::Octets(&[0x81, 0x01, 0x61]);
+    check_owned(
+        &case,
+        &string.encode_as(Tag::CTX_1),
+        [Wanted::Any, strict, Wanted::Any],
+    );
 }
 
 // ---- values that are wrapped
@@ -234,8 +269,8 @@ fn a_value_in_a_string(rt: HostRuntime) {
     let once = Wanted::Octets(&[0x04, 0x03, 0x01, 0x01, 0xFF]);
     are_wanted(&case, &wrapped, [once; 3]);
     let twice = OctetString::encode_wrapped(alloc, Mode::Cer, &wrapped);
-    let octets = [0x04, 0x05, 0x04, 0x03, 0x01, 0x01, 0xFF];
-    writes(&case, &twice, Mode::Der, &octets);
+    let octets = Wanted::Octets(&[0x04, 0x05, 0x04, 0x03, 0x01, 0x01, 0xFF]);
+    are_wanted(&case, &twice, [Wanted::Any, Wanted::Any, octets]);
 }
 
 /// Checks an encoding of 1001 octets, inside a string in CER.
@@ -259,8 +294,11 @@ fn a_long_value_in_a_string(rt: HostRuntime) {
     let octets = value.as_slice();
     let wrapped = OctetString::encode_wrapped(alloc, Mode::Der, octets.encode());
     case.same(cer.len(), 1011);
-    writes(&case, &wrapped, Mode::Cer, cer.as_slice());
-    writes(&case, &wrapped, Mode::Ber, der.as_slice());
+    let (cer, der) = (
+        Wanted::Octets(cer.as_slice()),
+        Wanted::Octets(der.as_slice()),
+    );
+    are_wanted(&case, &wrapped, [der, cer, Wanted::Any]);
 }
 
 // ---- refusals
@@ -269,11 +307,11 @@ fn a_long_value_in_a_string(rt: HostRuntime) {
 fn strings_with_the_tag_of_the_end(rt: HostRuntime) {
     let case = Case::new(&rt, rt.alloc(), 0);
     let octets = octets_of(&case, 1001);
-    let slice = OctetString::encode_slice_as(octets.as_slice(), Tag::END_OF_VALUE);
-    let string = cut(&case, octets.as_slice(), 7).encode_as(Tag::END_OF_VALUE);
     let refused = [Wanted::Refused(EncodeError::EndOfValueTag); 3];
-    are_wanted(&case, &slice, refused);
-    are_wanted(&case, &string, refused);
+    let slice = OctetString::encode_slice_as(octets.as_slice(), Tag::END_OF_VALUE);
+    check_slice(&case, &slice, refused);
+    let string = cut(&case, octets.as_slice(), 7).encode_as(Tag::END_OF_VALUE);
+    check_owned(&case, &string, refused);
 }
 
 #[test]
@@ -288,8 +326,11 @@ fn values_that_are_refused_in_a_string(rt: HostRuntime) {
     are_wanted(&case, &wrapped, [refused; 3]);
     let wrapped = OctetString::encode_wrapped(alloc, Mode::Der, Zeros(4294967296).encode());
     are_wanted(&case, &wrapped, [long; 3]);
-    let wrapped = OctetString::encode_wrapped(alloc, Mode::Ber, Nulls(2147483648));
-    are_wanted(&case, &wrapped, [long, Wanted::Size(4312147172), long]);
-    let wrapped = OctetString::encode_wrapped(alloc, Mode::Ber, Nulls(9223372036854775807));
-    are_wanted(&case, &wrapped, [long, over, long]);
+    for (count, in_cer) in [
+        (2147483648, Wanted::Size(4312147172)),
+        (9223372036854775807, over),
+    ] {
+        let wrapped = OctetString::encode_wrapped(alloc, Mode::Ber, Nulls(count));
+        are_wanted(&case, &wrapped, [long, in_cer, long]);
+    }
 }
