@@ -1,9 +1,9 @@
 //! VisibleString, BMPString, UniversalString, TeletexString and GeneralString (X.680, 41; X.690,
 //! 8.23).
-use crate::rows::{Again, Read, Written, come_back, done, lends, reads, reads_and_rewrites};
-use asn1::{
-    BmpString, BmpStringRef, GeneralString, TeletexString, UniversalString, VisibleString, decode,
+use crate::rows::{
+    Again, Read, Written, done, lends, reads_and_come_back, reads_and_rewrites, value,
 };
+use asn1::{BmpString, BmpStringRef, GeneralString, TeletexString, UniversalString, VisibleString};
 use bcder::Mode;
 use bcder::string::StringError;
 
@@ -110,8 +110,7 @@ const UNIVERSAL_AGAIN: [Again; 2] = [
 
 #[test]
 fn four_octets_each_are_read_and_come_back(rt: HostRuntime) {
-    reads::<UniversalString>(&rt, rt.alloc(), &UNIVERSAL);
-    come_back::<UniversalString>(&rt, rt.alloc(), &UNIVERSAL_AGAIN);
+    reads_and_come_back::<UniversalString>(&rt, rt.alloc(), &UNIVERSAL, &[], &UNIVERSAL_AGAIN);
 }
 
 const TELETEX: [Read; 4] = [
@@ -144,18 +143,19 @@ const TELETEX_WRITTEN: [Written; 2] = [
     ),
 ];
 
+/// GeneralStrings, and their characters, if all are ASCII.
+const GENERAL: [(&[u8], Option<&str>); 2] = [
+    (&[0x1B, 0x02, 0x61, 0x62], Some("ab")),
+    (&[0x1B, 0x02, 0xC3, 0xA9], None),
+];
+
 #[test]
 fn octets_of_registered_sets_are_kept(rt: HostRuntime) {
     reads_and_rewrites::<TeletexString>(&rt, rt.alloc(), &TELETEX, &TELETEX_WRITTEN);
-    let text: &[u8] = &[0x1B, 0x02, 0x61, 0x62];
-    let general = done(&rt, decode::<GeneralString, _>(rt.alloc(), Mode::Der, text));
-    assert_eq!(rt; general.as_ascii(), Some("ab"));
-    let other: &[u8] = &[0x1B, 0x02, 0xC3, 0xA9];
-    let general = done(
-        &rt,
-        decode::<GeneralString, _>(rt.alloc(), Mode::Der, other),
-    );
-    assert_eq!(rt; general.as_ascii(), None);
+    for (octets, wanted) in &GENERAL {
+        let general = value::<GeneralString>(&rt, rt.alloc(), Mode::Der, octets);
+        assert_eq!(rt; general.as_ascii(), *wanted);
+    }
 }
 
 #[test]

@@ -266,26 +266,6 @@ mod tests {
         come_back::<Spans>(&rt, rt.alloc(), &[(Mode::Der, SPANS, Mode::Der, SPANS)]);
     }
 
-    /// 0, 127, 128 and 4294967295.
-    const NUMBERS: &[u8] = &[
-        0x30, 0x11, 0x02, 0x01, 0x00, 0x02, 0x01, 0x7F, 0x02, 0x02, 0x00, 0x80, 0x02, 0x05, 0x00,
-        0xFF, 0xFF, 0xFF, 0xFF,
-    ];
-
-    const ARE_NUMBERS: [Again; 3] = [
-        (Mode::Der, NUMBERS, Mode::Ber, NUMBERS),
-        (
-            Mode::Der,
-            NUMBERS,
-            Mode::Cer,
-            &[
-                0x30, 0x80, 0x02, 0x01, 0x00, 0x02, 0x01, 0x7F, 0x02, 0x02, 0x00, 0x80, 0x02, 0x05,
-                0x00, 0xFF, 0xFF, 0xFF, 0xFF, 0x00, 0x00,
-            ],
-        ),
-        (Mode::Der, NUMBERS, Mode::Der, NUMBERS),
-    ];
-
     const TOLD: [Again; 2] = [
         (
             Mode::Der,
@@ -302,8 +282,7 @@ mod tests {
     ];
 
     #[test]
-    fn lists_and_fields_come_back(rt: HostRuntime) {
-        come_back::<SequenceOf<u32>>(&rt, rt.alloc(), &ARE_NUMBERS);
+    fn fields_come_back(rt: HostRuntime) {
         come_back::<Told>(&rt, rt.alloc(), &TOLD);
     }
 
@@ -326,22 +305,6 @@ mod tests {
         ),
     ];
 
-    // in DER in ascending order (X.690, 11.6)
-    const SETS_OF: [Again; 2] = [
-        (
-            Mode::Ber,
-            &[0x31, 0x06, 0x02, 0x01, 0x02, 0x02, 0x01, 0x01],
-            Mode::Ber,
-            &[0x31, 0x06, 0x02, 0x01, 0x02, 0x02, 0x01, 0x01],
-        ),
-        (
-            Mode::Ber,
-            &[0x31, 0x06, 0x02, 0x01, 0x02, 0x02, 0x01, 0x01],
-            Mode::Der,
-            &[0x31, 0x06, 0x02, 0x01, 0x01, 0x02, 0x01, 0x02],
-        ),
-    ];
-
     const BOXED: [Again; 1] = [(
         Mode::Der,
         &[0x30, 0x08, 0xA0, 0x03, 0x02, 0x01, 0x05, 0x01, 0x01, 0xFF],
@@ -349,21 +312,10 @@ mod tests {
         &[0x30, 0x08, 0xA0, 0x03, 0x02, 0x01, 0x05, 0x01, 0x01, 0xFF],
     )];
 
-    /// A string that was cut. In BER it is written so (X.690, 8.7.3).
-    const CUT: &[u8] = &[0x24, 0x06, 0x04, 0x01, 0x07, 0x04, 0x01, 0x08];
-
-    const STRINGS: [Again; 3] = [
-        (Mode::Ber, CUT, Mode::Ber, CUT),
-        (Mode::Ber, CUT, Mode::Cer, &[0x04, 0x02, 0x07, 0x08]),
-        (Mode::Ber, CUT, Mode::Der, &[0x04, 0x02, 0x07, 0x08]),
-    ];
-
     #[test]
-    fn sets_boxes_and_strings_come_back(rt: HostRuntime) {
+    fn sets_and_boxes_come_back(rt: HostRuntime) {
         come_back::<Ascending>(&rt, rt.alloc(), &SETS);
-        come_back::<SetOf<u32>>(&rt, rt.alloc(), &SETS_OF);
         come_back::<Boxed>(&rt, rt.alloc(), &BOXED);
-        come_back::<OctetString>(&rt, rt.alloc(), &STRINGS);
     }
 
     /// A number and a NULL.

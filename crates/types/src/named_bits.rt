@@ -1,5 +1,5 @@
 //! BIT STRING with named bits (X.680, 22.7; X.690, 11.2.2).
-use crate::rows::{Again, Read, Written, come_back, done, reads, reads_and_rewrites};
+use crate::rows::{Again, Read, Written, done, reads, reads_and_come_back};
 use asn1::{Context, Implicit, NamedBits, decode};
 use bcder::Mode;
 
@@ -87,11 +87,6 @@ const BITS_WRITTEN: [Written; 6] = [
     ),
 ];
 
-#[test]
-fn named_bits_are_read_and_written(rt: HostRuntime) {
-    reads_and_rewrites::<NamedBits>(&rt, rt.alloc(), &BITS, &BITS_WRITTEN);
-}
-
 const AGAIN: [Again; 3] = [
     (
         Mode::Ber,
@@ -114,8 +109,8 @@ const AGAIN: [Again; 3] = [
 ];
 
 #[test]
-fn named_bits_come_back(rt: HostRuntime) {
-    come_back::<NamedBits>(&rt, rt.alloc(), &AGAIN);
+fn named_bits_are_read_and_written(rt: HostRuntime) {
+    reads_and_come_back::<NamedBits>(&rt, rt.alloc(), &BITS, &BITS_WRITTEN, &AGAIN);
 }
 
 #[test]

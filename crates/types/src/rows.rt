@@ -235,3 +235,35 @@ pub fn come_back<T: Clear + Decode<BytesSource>>(rt: &impl Abort, alloc: Global,
         writes(rt, alloc, &y, *other, wanted);
     }
 }
+
+/// Reads the octets of some rows, writes the values of others, and does so again.
+pub fn reads_and_come_back<T: Clear + Decode<BytesSource> + Debug>(
+    rt: &impl Abort,
+    alloc: Global,
+    rows: &[Read<'_>],
+    written: &[Written<'_>],
+    again: &[Again<'_>],
+)
+    requires distinct { IsTrue T.distinct }
+    requires always { (mode : Rules) → IsTrue (T.always_clear mode) }
+{
+    reads::<T>(rt, alloc, rows);
+    rewrites::<T>(rt, alloc, written);
+    come_back::<T>(rt, alloc, again);
+}
+
+/// Takes the values of some rows, writes those of others, and does so again.
+pub fn takes_and_come_back<T: Clear + Decode<BytesSource> + Debug>(
+    rt: &impl Abort,
+    alloc: Global,
+    rows: &[Read<'_>],
+    written: &[Written<'_>],
+    again: &[Again<'_>],
+)
+    requires distinct { IsTrue T.distinct }
+    requires always { (mode : Rules) → IsTrue (T.always_clear mode) }
+{
+    takes::<T>(rt, alloc, rows);
+    rewrites::<T>(rt, alloc, written);
+    come_back::<T>(rt, alloc, again);
+}

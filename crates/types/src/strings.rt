@@ -1,5 +1,5 @@
 //! Octet strings, bit strings and restricted character strings.
-use crate::rows::{Read, Written, done, reads, reads_and_rewrites};
+use crate::rows::{Again, Read, Written, done, reads, reads_and_come_back, reads_and_rewrites};
 use asn1::decode;
 use bcder::string::{Ia5String, NumericString, PrintableString, Utf8String};
 use bcder::{BitString, Mode, OctetString};
@@ -28,9 +28,18 @@ const OCTETS: [Read; 5] = [
     (Mode::Ber, &[0x24, 0x03, 0x02, 0x01, 0x07], "refused"),
 ];
 
+/// A string that was cut. In BER it is written so (X.690, 8.7.3).
+const SEGMENTS: &[u8] = &[0x24, 0x06, 0x04, 0x01, 0x07, 0x04, 0x01, 0x08];
+
+const OCTETS_AGAIN: [Again; 3] = [
+    (Mode::Ber, SEGMENTS, Mode::Ber, SEGMENTS),
+    (Mode::Ber, SEGMENTS, Mode::Cer, &[0x04, 0x02, 0x07, 0x08]),
+    (Mode::Ber, SEGMENTS, Mode::Der, &[0x04, 0x02, 0x07, 0x08]),
+];
+
 #[test]
-fn octet_strings_are_read(rt: HostRuntime) {
-    reads::<OctetString>(&rt, rt.alloc(), &OCTETS);
+fn octet_strings_are_read_and_come_back(rt: HostRuntime) {
+    reads_and_come_back::<OctetString>(&rt, rt.alloc(), &OCTETS, &[], &OCTETS_AGAIN);
 }
 
 /// Reads an octet string in BER.

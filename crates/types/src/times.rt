@@ -1,6 +1,6 @@
 //! UTCTime (X.680, 47; X.690, 11.8) and GeneralizedTime (X.680, 46; X.690, 11.7).
 
-use crate::rows::{Again, Read, come_back, done, reads};
+use crate::rows::{Again, Read, come_back, done, reads_and_come_back};
 use asn1::{Choice2, DateTime, GeneralizedTime, UtcTime};
 use bcder::Mode::{Ber, Cer, Der};
 use std::alloc::Global;
@@ -199,14 +199,12 @@ fn is_after(rt: &impl Abort, alloc: Global, number: i64, wanted: &str) {
 
 #[test]
 fn utc_times(rt: HostRuntime) {
-    reads::<UtcTime>(&rt, rt.alloc(), &UTC);
-    come_back::<UtcTime>(&rt, rt.alloc(), &UTC_AGAIN);
+    reads_and_come_back::<UtcTime>(&rt, rt.alloc(), &UTC, &[], &UTC_AGAIN);
 }
 
 #[test]
 fn generalized_times(rt: HostRuntime) {
-    reads::<GeneralizedTime>(&rt, rt.alloc(), &GENERALIZED);
-    come_back::<GeneralizedTime>(&rt, rt.alloc(), &GENERALIZED_AGAIN);
+    reads_and_come_back::<GeneralizedTime>(&rt, rt.alloc(), &GENERALIZED, &[], &GENERALIZED_AGAIN);
 }
 
 #[test]
