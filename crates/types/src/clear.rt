@@ -21,14 +21,13 @@ use bcder::{BitString, Mode, NoMemory, OctetString, Tag, Unsigned};
 use std::alloc::Global;
 
 /// `BasicConstraints ::= SEQUENCE { cA BOOLEAN DEFAULT FALSE, pathLen INTEGER OPTIONAL }`.
-#[derive(Debug, Drop)]
+#[derive(Drop)]
 struct Constraints {
     ca: OrDefault<bool, NoCa>,
     path_len: Option<u32>,
 }
 
 /// `FALSE`.
-#[derive(Clone, Copy, Debug, PartialEq, Eq)]
 struct NoCa;
 
 impl DefaultValue<bool> for NoCa {
@@ -75,7 +74,7 @@ impl ClearDefinition for Constraints {
 }
 
 /// `Span ::= SEQUENCE { from INTEGER, until INTEGER OPTIONAL }`, a struct inside another.
-#[derive(Debug, Drop)]
+#[derive(Drop)]
 struct Span {
     from: u32,
     until: Option<u32>,

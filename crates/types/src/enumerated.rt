@@ -13,7 +13,7 @@ use bcder::Mode;
 ///         unspecified (0), keyCompromise (1), cACompromise (2), affiliationChanged (3),
 ///         superseded (4), cessationOfOperation (5), certificateHold (6), removeFromCRL (8),
 ///         privilegeWithdrawn (9), aACompromise (10) }
-#[derive(Clone, Copy, Debug, PartialEq, Eq, Drop)]
+#[derive(Debug, Drop)]
 enum CrlReason {
     Unspecified,
     KeyCompromise,
@@ -74,7 +74,7 @@ impl Enumeration for CrlReason {
 }
 
 /// `Colour ::= ENUMERATED { red (-1), blue (300), ... }`.
-#[derive(Clone, Copy, Debug, PartialEq, Eq, Drop)]
+#[derive(Debug, Drop)]
 enum Colour {
     Red,
     Blue,

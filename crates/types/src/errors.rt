@@ -18,7 +18,7 @@ use bcder::{Mode, NoMemory, Tag};
 use std::alloc::Global;
 
 /// `Range ::= SEQUENCE { from INTEGER (0..255), until INTEGER (0..255) OPTIONAL }`.
-#[derive(Debug, Drop)]
+#[derive(Drop)]
 struct Range {
     from: u8,
     until: Option<u8>,
@@ -62,7 +62,7 @@ impl<S: Source> DecodeParts<S> for Range {
 }
 
 /// `Answer ::= CHOICE { yes BOOLEAN, many Range }`.
-#[derive(Debug, Drop)]
+#[derive(Drop)]
 enum Answer {
     Yes(bool),
     Many(Range),
@@ -90,7 +90,6 @@ impl Definition for Answer {
 impl<S: Source> DecodeDefinition<S> for Answer {}
 
 /// `FALSE`.
-#[derive(Clone, Copy, Debug, PartialEq, Eq)]
 struct No;
 
 impl DefaultValue<bool> for No {
@@ -118,7 +117,7 @@ type ReportParts = Sequence<
 
 /// `Report ::= SEQUENCE { range Range, exact BOOLEAN DEFAULT FALSE, others SEQUENCE OF Range,
 /// answer [0] EXPLICIT Answer, last [1] IMPLICIT Range OPTIONAL }`.
-#[derive(Debug, Drop)]
+#[derive(Drop)]
 struct Report {
     range: Range,
     exact: OrDefault<bool, No>,
@@ -168,7 +167,7 @@ impl<S: Source> DecodeParts<S> for Report {
 }
 
 /// `Unnamed ::= SEQUENCE { range Range, flag BOOLEAN }`, without names.
-#[derive(Debug, Drop)]
+#[derive(Drop)]
 struct Unnamed {
     range: Range,
     flag: bool,

@@ -1,7 +1,7 @@
 //! A SEQUENCE that holds values of its own type, read and written with a limit of levels.
 //! Expected values are worked by hand from X.690, 8.9 and 8.10.
 use crate::rows::done;
-use asn1::{Any, ByRef, Sequence, SequenceOf, decode, encode};
+use asn1::{Any, Sequence, SequenceOf, decode, encode};
 use bcder::Mode;
 use bcder::decode::DecodeError;
 use bcder::encode::EncodeError;
@@ -39,13 +39,29 @@ pub enum NoTree {
     NoMemory,
 }
 
+/// Reads one level.
+fn level_of(alloc: Global, value: Any) -> Result<Level, DecodeError<Infallible>> {
+    value.decode_as::<Level>(alloc)
+}
+
+/// Writes one level.
+fn level_written(alloc: Global, mode: Mode, level: &Level) -> Result<Any, NoTree> {
+    match encode(alloc, mode, level) {
+        Ok(captured) => match decode::<Any, _>(alloc, mode, captured) {
+            Ok(value) => Ok(value),
+            Err(error) => Err(NoTree::Octets(error)),
+        },
+        Err(error) => Err(NoTree::Unwritten(error)),
+    }
+}
+
 /// Reads a tree of at most this many levels.
 #[cycle(tree)]
 pub fn tree_of(alloc: Global, value: Any, levels: u32) -> Result<Tree, NoTree> {
     if levels == 0 {
         return Err(NoTree::TooDeep);
     }
-    match value.decode_as::<Level>(alloc) {
+    match level_of(alloc, value) {
         Ok(Sequence((value, below))) => match trees_of(alloc, below, levels - 1) {
             Ok(children) => Ok(Tree { value, children }),
             Err(error) => Err(error),
@@ -76,16 +92,9 @@ pub fn written(alloc: Global, mode: Mode, tree: &Tree, levels: u32) -> Result<An
     if levels == 0 {
         return Err(NoTree::TooDeep);
     }
-    let below = match all_written(alloc, mode, &tree.children, levels - 1) {
-        Ok(below) => SequenceOf(below),
-        Err(error) => return Err(error),
-    };
-    match encode(alloc, mode, &Sequence((ByRef(&tree.value), ByRef(&below)))) {
-        Ok(captured) => match decode::<Any, _>(alloc, mode, captured) {
-            Ok(value) => Ok(value),
-            Err(error) => Err(NoTree::Octets(error)),
-        },
-        Err(error) => Err(NoTree::Unwritten(error)),
+    match all_written(alloc, mode, &tree.children, levels - 1) {
+        Ok(below) => level_written(alloc, mode, &Sequence((tree.value, SequenceOf(below)))),
+        Err(error) => Err(error),
     }
 }
 
