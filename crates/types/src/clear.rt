@@ -12,11 +12,10 @@ use asn1::{
     Any, ByRef, Choice2, Clear, ClearDefinition, ClearParts, Context, Decode, DecodeDefinition,
     DecodeParts, DefaultValue, Definition, Encode, EncodeDefinition, EncodeParts, Explicit,
     Implicit, ObjectIdentifier, OctetStringRef, OrDefault, Parts, Sequence, SequenceOf,
-    SequenceTag, Set, SetOf, Trace, Type, UseParts, Utf8StringRef,
+    SequenceTag, Set, Trace, Type, UseParts, Utf8StringRef,
 };
 use bcder::decode::{Constructed, DecodeError, Source};
 use bcder::encode::EncodeError;
-use bcder::string::Utf8String;
 use bcder::{BitString, Mode, NoMemory, OctetString, Tag, Unsigned};
 use std::alloc::Global;
 
@@ -223,11 +222,8 @@ mod tests {
     };
     use crate::rows::{Again, come_back, done, value, writes};
     use asn1::laws::{is_decoded_back, round_trip};
-    use asn1::{
-        Clear, Decode, ObjectIdentifier, OctetStringRef, Sequence, SequenceOf, SetOf, decode,
-    };
-    use bcder::encode::EncodeError;
-    use bcder::{BitString, Mode, OctetString, Oid};
+    use asn1::{ObjectIdentifier, OctetStringRef, decode};
+    use bcder::{BitString, Mode, Oid};
     use bytes::Bytes;
     use std::alloc::Global;
     use std::process::Abort;
@@ -320,16 +316,12 @@ mod tests {
     /// A number and a NULL.
     const OPEN: &[u8] = &[0x30, 0x05, 0x02, 0x01, 0x05, 0x05, 0x00];
 
-    /// Encodes a value of whatever type and decodes it.
-    fn open_again(rt: &impl Abort, alloc: Global, mode: Mode) -> Result<Open, EncodeError> {
-        round_trip(alloc, mode, &value::<Open>(rt, alloc, Mode::Der, OPEN))
-    }
-
     #[test]
     fn any_value_comes_back(rt: HostRuntime) {
         come_back::<Open>(&rt, rt.alloc(), &[(Mode::Der, OPEN, Mode::Der, OPEN)]);
         // what is kept in DER is not written in CER
-        assert!(rt; open_again(&rt, rt.alloc(), Mode::Cer).is_err());
+        let open = value::<Open>(&rt, rt.alloc(), Mode::Der, OPEN);
+        assert!(rt; round_trip(rt.alloc(), Mode::Cer, &open).is_err());
     }
 
     #[test]

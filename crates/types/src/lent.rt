@@ -132,10 +132,11 @@ const TEXTS: [Written; 2] = [
 
 #[test]
 fn lent_characters_are_text(rt: HostRuntime) {
+    lends_and_rewrites::<Utf8StringRef<&[u8]>>(&rt, rt.alloc(), &UTF8, &TEXTS);
     let octets: &[u8] = &[0x0C, 0x02, 0xC3, 0xA4];
     let string = done(
         &rt,
-        decode::<Utf8StringRef<&[u8]>, _>(rt.alloc(), Mode::Der, octets),
+        decode::<Utf8StringRef<&[u8]>, &[u8]>(rt.alloc(), Mode::Der, octets),
     );
     assert_eq!(rt; string.as_str(), "\u{e4}");
     assert!(rt; Utf8StringRef::new(&octets[2..]).is_ok());
@@ -143,8 +144,7 @@ fn lent_characters_are_text(rt: HostRuntime) {
 }
 
 #[test]
-fn lent_characters_are_read_and_written(rt: HostRuntime) {
-    lends_and_rewrites::<Utf8StringRef<&[u8]>>(&rt, rt.alloc(), &UTF8, &TEXTS);
+fn lent_characters_are_of_their_sets(rt: HostRuntime) {
     lends::<NumericStringRef<&[u8]>>(&rt, rt.alloc(), &NUMERIC);
     lends::<PrintableStringRef<&[u8]>>(&rt, rt.alloc(), &PRINTABLE);
     lends::<Ia5StringRef<&[u8]>>(&rt, rt.alloc(), &IA5);

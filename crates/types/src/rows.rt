@@ -4,10 +4,7 @@ ghost use Rattle.bcder.specs.declared.mode.Mode.{Mode as Rules};
 
 use crate::cut::{Cut, IsCut};
 use asn1::laws::{is_decoded_back, round_trip};
-use asn1::{
-    Clear, Decode, DecodeFields, Encode, EncodeFields, Sequence, Set, SetOrder, TypeError, decode,
-    decode_octets, encode,
-};
+use asn1::{Clear, Decode, Encode, TypeError, decode, decode_octets, encode};
 use bcder::Mode;
 use bcder::decode::{BytesSource, DecodeError, SliceSource};
 use bytes::Bytes;
@@ -85,19 +82,27 @@ pub fn lends<'a, T: Decode<SliceSource<'a>> + Debug>(
     }
 }
 
-/// Returns how an error shows itself, or `read`.
-fn explained(rt: &impl Abort, alloc: Global, error: Option<TypeError>) -> String {
-    match error {
+/// Asserts how an error shows itself, or that octets are `read`.
+pub fn is_explained(
+    rt: &impl Abort,
+    alloc: Global,
+    mode: Mode,
+    octets: &[u8],
+    error: Option<TypeError>,
+    wanted: &str,
+) {
+    let found = match error {
         Some(error) => done(rt, format!(in alloc; "{error}")),
         None => done(rt, format!(in alloc; "read")),
-    }
+    };
+    is_shown(rt, mode, octets, found.as_str(), wanted);
 }
 
 /// Asserts that the octets of each row are refused with an error that shows itself so, or `read`.
 pub fn explains<'a, T: Decode<SliceSource<'a>>>(rt: &impl Abort, alloc: Global, rows: &[Read<'a>]) {
     for (mode, octets, wanted) in rows {
-        let found = explained(rt, alloc, decode_octets::<T>(alloc, *mode, octets).err());
-        is_shown(rt, *mode, octets, found.as_str(), wanted);
+        let error = decode_octets::<T>(alloc, *mode, octets).err();
+        is_explained(rt, alloc, *mode, octets, error, wanted);
     }
 }
 
@@ -269,61 +274,4 @@ pub fn takes_and_come_back<T: Clear + Decode<BytesSource> + Debug>(
     takes::<T>(rt, alloc, rows);
     rewrites::<T>(rt, alloc, written);
     come_back::<T>(rt, alloc, again);
-}
-
-// What a call costs a proof grows several times with each level of composing in the type that it
-// names. So the functions below name one level, and their callers what stands inside.
-
-/// Reads the octets of each row as a SEQUENCE of fields.
-pub fn reads_fields<F: DecodeFields<BytesSource> + Debug>(
-    rt: &impl Abort,
-    alloc: Global,
-    rows: &[Read<'_>],
-) {
-    reads::<Sequence<F>>(rt, alloc, rows);
-}
-
-/// Reads the octets of each row as a SEQUENCE of two fields.
-pub fn reads_two<A: DecodeFields<BytesSource> + Debug, B: DecodeFields<BytesSource> + Debug>(
-    rt: &impl Abort,
-    alloc: Global,
-    rows: &[Read<'_>],
-) {
-    reads::<Sequence<(A, B)>>(rt, alloc, rows);
-}
-
-/// Reads SEQUENCEs of fields, and writes others.
-pub fn reads_and_rewrites_fields<F: EncodeFields + DecodeFields<BytesSource> + Debug>(
-    rt: &impl Abort,
-    alloc: Global,
-    rows: &[Read<'_>],
-    written: &[Written<'_>],
-) {
-    reads_and_rewrites::<Sequence<F>>(rt, alloc, rows, written);
-}
-
-/// Takes SETs of two members.
-pub fn takes_two_members<
-    A: DecodeFields<BytesSource> + SetOrder + Debug,
-    B: DecodeFields<BytesSource> + SetOrder + Debug,
->(rt: &impl Abort, alloc: Global, rows: &[Read<'_>]) {
-    takes::<Set<(A, B)>>(rt, alloc, rows);
-}
-
-/// Takes SETs of three members.
-pub fn takes_three_members<
-    A: DecodeFields<BytesSource> + SetOrder + Debug,
-    B: DecodeFields<BytesSource> + SetOrder + Debug,
-    C: DecodeFields<BytesSource> + SetOrder + Debug,
->(rt: &impl Abort, alloc: Global, rows: &[Read<'_>]) {
-    takes::<Set<(A, B, C)>>(rt, alloc, rows);
-}
-
-/// Takes SETs of three members, and writes others.
-pub fn takes_and_rewrites_three_members<
-    A: EncodeFields + DecodeFields<BytesSource> + SetOrder + Debug,
-    B: EncodeFields + DecodeFields<BytesSource> + SetOrder + Debug,
-    C: EncodeFields + DecodeFields<BytesSource> + SetOrder + Debug,
->(rt: &impl Abort, alloc: Global, rows: &[Read<'_>], written: &[Written<'_>]) {
-    takes_and_rewrites::<Set<(A, B, C)>>(rt, alloc, rows, written);
 }
