@@ -1,8 +1,6 @@
 //! VisibleString, BMPString, UniversalString, TeletexString and GeneralString (X.680, 41; X.690,
 //! 8.23).
-use crate::rows::{
-    Again, Read, Written, done, lends, reads_and_come_back, reads_and_rewrites, value,
-};
+use crate::rows::{Again, Read, Written, lends, reads_and_come_back, reads_and_rewrites, value};
 use asn1::{BmpString, BmpStringRef, GeneralString, TeletexString, UniversalString, VisibleString};
 use bcder::Mode;
 use bcder::string::StringError;
@@ -160,9 +158,9 @@ fn octets_of_registered_sets_are_kept(rt: HostRuntime) {
 
 #[test]
 fn texts_are_made_and_shown(rt: HostRuntime) {
-    let bmp = done(&rt, BmpString::from_str(rt.alloc(), "A\u{20AC}"));
+    let bmp = BmpString::from_str(rt.alloc(), "A\u{20AC}").expect(&rt, "refused");
     assert!(rt; bmp.octet_string().as_slice() == Some([0x00, 0x41, 0x20, 0xAC].as_slice()));
-    let shown = done(&rt, format!(in rt.alloc(); "{bmp}"));
+    let shown = format!(in rt.alloc(); "{bmp}").expect(&rt, "refused");
     assert_eq!(rt; shown.as_str(), "A\u{20AC}");
     let large = BmpString::from_str(rt.alloc(), "\u{1F600}");
     assert!(rt; matches!(large, Err(StringError::CharSet)));
@@ -170,11 +168,11 @@ fn texts_are_made_and_shown(rt: HostRuntime) {
 
 #[test]
 fn large_texts_are_made_and_shown(rt: HostRuntime) {
-    let universal = done(&rt, UniversalString::from_str(rt.alloc(), "\u{1F600}"));
+    let universal = UniversalString::from_str(rt.alloc(), "\u{1F600}").expect(&rt, "refused");
     assert!(rt; universal.octet_string().as_slice() == Some([0x00, 0x01, 0xF6, 0x00].as_slice()));
-    let shown = done(&rt, format!(in rt.alloc(); "{universal}"));
+    let shown = format!(in rt.alloc(); "{universal}").expect(&rt, "refused");
     assert_eq!(rt; shown.as_str(), "\u{1F600}");
-    let visible = done(&rt, VisibleString::from_str(rt.alloc(), "a b"));
+    let visible = VisibleString::from_str(rt.alloc(), "a b").expect(&rt, "refused");
     assert_eq!(rt; visible.as_str(), Some("a b"));
     assert!(rt; VisibleString::from_str(rt.alloc(), "a\n").is_err());
 }

@@ -220,7 +220,7 @@ mod tests {
         Ascending, Boxed, Constraints, Lent, Open, Spans, Told, bits_again, bits_come_back,
         identifier_comes_back, lent_octets_are_decoded,
     };
-    use crate::rows::{Again, come_back, done, value, writes};
+    use crate::rows::{Again, come_back, value, writes};
     use asn1::laws::{is_decoded_back, round_trip};
     use asn1::{ObjectIdentifier, OctetStringRef, decode};
     use bcder::{BitString, Mode, Oid};
@@ -327,10 +327,7 @@ mod tests {
     #[test]
     fn lent_octets_come_back(rt: HostRuntime) {
         let octets: &[u8] = &[0x30, 0x06, 0x04, 0x01, 0x07, 0x0C, 0x01, 0x41];
-        let x = done(
-            &rt,
-            decode::<Lent<'_>, &[u8]>(rt.alloc(), Mode::Der, octets),
-        );
+        let x = decode::<Lent<'_>, &[u8]>(rt.alloc(), Mode::Der, octets).expect(&rt, "refused");
         lent_octets_are_decoded(&x);
         writes(&rt, rt.alloc(), &x, Mode::Der, octets);
     }
@@ -361,7 +358,7 @@ mod tests {
         for mode in [Mode::Ber, Mode::Cer, Mode::Der] {
             assert_eq!(rt; bits_come_back(mode, bits), wanted || mode.is_ber());
         }
-        assert!(rt; done(rt, bits_again(alloc, bits)) == *bits);
+        assert!(rt; bits_again(alloc, bits).expect(rt, "refused") == *bits);
     }
 
     #[test]
@@ -382,7 +379,7 @@ mod tests {
 
     /// Returns the identifier with these octets.
     fn identifier(rt: &impl Abort, alloc: Global, octets: &[u8]) -> ObjectIdentifier {
-        ObjectIdentifier(Oid(done(rt, Bytes::copy_from_slice(alloc, octets))))
+        ObjectIdentifier(Oid(Bytes::copy_from_slice(alloc, octets).expect(rt, "refused")))
     }
 
     #[test]

@@ -1,6 +1,5 @@
 //! A SEQUENCE that holds values of its own type, read and written with a limit of levels.
 //! Expected values are worked by hand from X.690, 8.9 and 8.10.
-use crate::rows::done;
 use asn1::{Any, Sequence, SequenceOf, decode, encode};
 use bcder::Mode;
 use bcder::decode::DecodeError;
@@ -197,7 +196,7 @@ fn shown(rt: &impl Abort, alloc: Global, mode: Mode, octets: &[u8]) -> String {
         Err(NoTree::Octets(_)) => format!(in alloc; "refused"),
         Err(error) => format!(in alloc; "{error:?}"),
     };
-    done(rt, text)
+    text.expect(rt, "refused")
 }
 
 #[test]
@@ -208,31 +207,27 @@ fn trees_hold_trees(rt: HostRuntime) {
     }
 }
 
-/// Returns whether a tree isn't written, as it has more levels than it may have.
-fn is_too_deep(alloc: Global, mode: Mode, tree: &Tree, levels: u32) -> bool {
-    matches!(written(alloc, mode, tree, levels), Err(NoTree::TooDeep))
-}
-
-/// Asserts that a tree that is read is written as the same octets, and not if it has more levels
-/// than it may have.
-fn is_written(rt: &impl Abort, alloc: Global, mode: Mode, octets: &[u8], levels: u32) {
-    if let Ok(tree) = read(alloc, mode, octets) {
-        let again = done(rt, written(alloc, mode, &tree, levels));
-        assert_eq!(rt; again.as_slice(), octets, "in {mode:?}");
-        assert!(rt; is_too_deep(alloc, mode, &tree, 0));
-    }
+/// Asserts that a tree is written as these octets, and not if it has more levels than it may have.
+fn is_written(rt: &impl Abort, alloc: Global, mode: Mode, tree: &Tree, octets: &[u8]) {
+    let again = written(alloc, mode, tree, 3).expect(rt, "refused");
+    assert_eq!(rt; again.as_slice(), octets, "in {mode:?}");
+    let refused = written(alloc, mode, tree, 0);
+    assert!(rt; matches!(refused, Err(NoTree::TooDeep)));
 }
 
 #[test]
 fn trees_are_written(rt: HostRuntime) {
     for (mode, octets, _) in &TREES {
-        is_written(&rt, rt.alloc(), *mode, octets, 3);
+        if let Ok(tree) = read(rt.alloc(), *mode, octets) {
+            is_written(&rt, rt.alloc(), *mode, &tree, octets);
+        }
     }
 }
 
 #[test]
 fn a_tree_that_is_too_deep_is_not_written(rt: HostRuntime) {
     let (mode, octets, _) = TREES[2];
-    let tree = done(&rt, read(rt.alloc(), mode, octets));
-    assert!(rt; is_too_deep(rt.alloc(), mode, &tree, 2));
+    let tree = read(rt.alloc(), mode, octets).expect(&rt, "refused");
+    let refused = written(rt.alloc(), mode, &tree, 2);
+    assert!(rt; matches!(refused, Err(NoTree::TooDeep)));
 }
