@@ -1,5 +1,5 @@
 //! One value of whatever type. Expected values are worked by hand from X.690, 8.1.
-use crate::rows::{Read, Written, done, is_shown, reads, reads_and_rewrites, shown, takes};
+use crate::rows::{Read, Written, is_shown, reads, reads_and_rewrites, shown, takes};
 use asn1::{Any, Choice2, Context, Decode, Explicit, Sequence, decode, encode};
 use bcder::decode::BytesSource;
 use bcder::encode::EncodeError;
@@ -220,7 +220,7 @@ fn it_is_written_in_its_own_mode(rt: HostRuntime) {
 
 /// Keeps a value.
 fn kept(rt: &impl Abort, alloc: Global, mode: Mode, octets: &[u8]) -> Any {
-    done(rt, decode::<Any, &[u8]>(alloc, mode, octets))
+    decode::<Any, &[u8]>(alloc, mode, octets).expect(rt, "refused")
 }
 
 /// Asserts how what is kept is shown once it is decoded as a value of a type.
@@ -234,8 +234,8 @@ fn decodes<T: Decode<BytesSource> + Debug>(rt: &impl Abort, alloc: Global, rows:
 
 /// Encodes a number, and keeps that.
 fn captured(rt: &impl Abort, alloc: Global) -> Any {
-    let octets = done(rt, encode(alloc, Mode::Der, &5_u32));
-    done(rt, decode::<Any, Captured>(alloc, Mode::Der, octets))
+    let octets = encode(alloc, Mode::Der, &5_u32).expect(rt, "refused");
+    decode::<Any, Captured>(alloc, Mode::Der, octets).expect(rt, "refused")
 }
 
 #[test]

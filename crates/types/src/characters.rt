@@ -1,9 +1,7 @@
 //! VisibleString, BMPString, UniversalString, TeletexString and GeneralString (X.680, 41; X.690,
 //! 8.23).
-use crate::rows::{Again, Read, Written, come_back, done, lends, reads, reads_and_rewrites};
-use asn1::{
-    BmpString, BmpStringRef, GeneralString, TeletexString, UniversalString, VisibleString, decode,
-};
+use crate::rows::{Again, Read, Written, lends, reads_and_come_back, reads_and_rewrites, value};
+use asn1::{BmpString, BmpStringRef, GeneralString, TeletexString, UniversalString, VisibleString};
 use bcder::Mode;
 use bcder::string::StringError;
 
@@ -110,8 +108,7 @@ const UNIVERSAL_AGAIN: [Again; 2] = [
 
 #[test]
 fn four_octets_each_are_read_and_come_back(rt: HostRuntime) {
-    reads::<UniversalString>(&rt, rt.alloc(), &UNIVERSAL);
-    come_back::<UniversalString>(&rt, rt.alloc(), &UNIVERSAL_AGAIN);
+    reads_and_come_back::<UniversalString>(&rt, rt.alloc(), &UNIVERSAL, &[], &UNIVERSAL_AGAIN);
 }
 
 const TELETEX: [Read; 4] = [
@@ -144,25 +141,26 @@ const TELETEX_WRITTEN: [Written; 2] = [
     ),
 ];
 
+/// GeneralStrings, and their characters, if all are ASCII.
+const GENERAL: [(&[u8], Option<&str>); 2] = [
+    (&[0x1B, 0x02, 0x61, 0x62], Some("ab")),
+    (&[0x1B, 0x02, 0xC3, 0xA9], None),
+];
+
 #[test]
 fn octets_of_registered_sets_are_kept(rt: HostRuntime) {
     reads_and_rewrites::<TeletexString>(&rt, rt.alloc(), &TELETEX, &TELETEX_WRITTEN);
-    let text: &[u8] = &[0x1B, 0x02, 0x61, 0x62];
-    let general = done(&rt, decode::<GeneralString, _>(rt.alloc(), Mode::Der, text));
-    assert_eq!(rt; general.as_ascii(), Some("ab"));
-    let other: &[u8] = &[0x1B, 0x02, 0xC3, 0xA9];
-    let general = done(
-        &rt,
-        decode::<GeneralString, _>(rt.alloc(), Mode::Der, other),
-    );
-    assert_eq!(rt; general.as_ascii(), None);
+    for (octets, wanted) in &GENERAL {
+        let general = value::<GeneralString>(&rt, rt.alloc(), Mode::Der, octets);
+        assert_eq!(rt; general.as_ascii(), *wanted);
+    }
 }
 
 #[test]
 fn texts_are_made_and_shown(rt: HostRuntime) {
-    let bmp = done(&rt, BmpString::from_str(rt.alloc(), "A\u{20AC}"));
+    let bmp = BmpString::from_str(rt.alloc(), "A\u{20AC}").expect(&rt, "refused");
     assert!(rt; bmp.octet_string().as_slice() == Some([0x00, 0x41, 0x20, 0xAC].as_slice()));
-    let shown = done(&rt, format!(in rt.alloc(); "{bmp}"));
+    let shown = format!(in rt.alloc(); "{bmp}").expect(&rt, "refused");
     assert_eq!(rt; shown.as_str(), "A\u{20AC}");
     let large = BmpString::from_str(rt.alloc(), "\u{1F600}");
     assert!(rt; matches!(large, Err(StringError::CharSet)));
@@ -170,11 +168,11 @@ fn texts_are_made_and_shown(rt: HostRuntime) {
 
 #[test]
 fn large_texts_are_made_and_shown(rt: HostRuntime) {
-    let universal = done(&rt, UniversalString::from_str(rt.alloc(), "\u{1F600}"));
+    let universal = UniversalString::from_str(rt.alloc(), "\u{1F600}").expect(&rt, "refused");
     assert!(rt; universal.octet_string().as_slice() == Some([0x00, 0x01, 0xF6, 0x00].as_slice()));
-    let shown = done(&rt, format!(in rt.alloc(); "{universal}"));
+    let shown = format!(in rt.alloc(); "{universal}").expect(&rt, "refused");
     assert_eq!(rt; shown.as_str(), "\u{1F600}");
-    let visible = done(&rt, VisibleString::from_str(rt.alloc(), "a b"));
+    let visible = VisibleString::from_str(rt.alloc(), "a b").expect(&rt, "refused");
     assert_eq!(rt; visible.as_str(), Some("a b"));
     assert!(rt; VisibleString::from_str(rt.alloc(), "a\n").is_err());
 }

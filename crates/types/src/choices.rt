@@ -1,5 +1,5 @@
 //! CHOICE. Expected values are worked by hand from X.690, 8.13.
-use crate::rows::{Again, Read, come_back, reads, takes};
+use crate::rows::{Again, Read, reads_and_come_back, takes, takes_and_come_back};
 use asn1::{Choice2, Choice3, Choice4, Context, Implicit, Sequence};
 use bcder::string::Utf8String;
 use bcder::{Integer, Mode, OctetString};
@@ -36,45 +36,6 @@ const OPTION: [Read; 2] = [
 fn choices_stand_in_lists_and_are_left_out(rt: HostRuntime) {
     takes::<Sequence<Vec<Either>>>(&rt, rt.alloc(), &LIST);
     takes::<Sequence<Option<Either>>>(&rt, rt.alloc(), &OPTION);
-}
-
-/// `[0]`, `[1]`, `[2]` or `[3]`, each with a number.
-type One4 = Choice4<
-    Implicit<Context<0>, u32>,
-    Implicit<Context<1>, u32>,
-    Implicit<Context<2>, u32>,
-    Implicit<Context<3>, u32>,
->;
-
-const ONE_OF_FOUR: [Read; 5] = [
-    (Mode::Der, &[0x80, 0x01, 0x05], "One(Implicit { value: 5 })"),
-    (Mode::Der, &[0x81, 0x01, 0x06], "Two(Implicit { value: 6 })"),
-    (
-        Mode::Der,
-        &[0x82, 0x01, 0x07],
-        "Three(Implicit { value: 7 })",
-    ),
-    (
-        Mode::Der,
-        &[0x83, 0x01, 0x08],
-        "Four(Implicit { value: 8 })",
-    ),
-    (Mode::Der, &[0x84, 0x01, 0x09], "none"),
-];
-
-/// An untagged number, or `[0]` or `[1]` with one.
-type One3 = Choice3<u32, Implicit<Context<0>, u32>, Implicit<Context<1>, u32>>;
-
-const ONE_OF_THREE: [Read; 1] = [(
-    Mode::Der,
-    &[0x81, 0x01, 0x06],
-    "Three(Implicit { value: 6 })",
-)];
-
-#[test]
-fn one_of_more_is_read(rt: HostRuntime) {
-    takes::<One4>(&rt, rt.alloc(), &ONE_OF_FOUR);
-    reads::<One3>(&rt, rt.alloc(), &ONE_OF_THREE);
 }
 
 /// `CHOICE { yes BOOLEAN, many INTEGER, name OCTET STRING }`.
@@ -176,8 +137,36 @@ const OF_FOUR: [Again; 8] = [
     ),
 ];
 
+const ONE_OF_THREE: [Read; 1] = [(
+    Mode::Der,
+    &[0x04, 0x01, 0x07],
+    "Three(OctetString { octets: Whole(b\"\\x07\") })",
+)];
+
+const ONE_OF_FOUR: [Read; 5] = [
+    (
+        Mode::Der,
+        &[0x02, 0x02, 0xFF, 0x00],
+        "One(Integer { octets: b\"\\xff\\0\" })",
+    ),
+    (Mode::Der, &[0x05, 0x00], "Two(())"),
+    (
+        Mode::Der,
+        &[0x0C, 0x01, 0x41],
+        "Three(RestrictedString { octets: OctetString { octets: Whole(b\"A\") }, \
+         set: PhantomData<_> })",
+    ),
+    (
+        Mode::Der,
+        &[0x80, 0x01, 0x08],
+        "Four(Implicit { value: 8 })",
+    ),
+    // of none
+    (Mode::Der, &[0x84, 0x01, 0x09], "none"),
+];
+
 #[test]
-fn the_value_of_a_choice_is_written(rt: HostRuntime) {
-    come_back::<OneOfThree>(&rt, rt.alloc(), &OF_THREE);
-    come_back::<OneOfFour>(&rt, rt.alloc(), &OF_FOUR);
+fn one_of_more_is_read_and_comes_back(rt: HostRuntime) {
+    reads_and_come_back::<OneOfThree>(&rt, rt.alloc(), &ONE_OF_THREE, &[], &OF_THREE);
+    takes_and_come_back::<OneOfFour>(&rt, rt.alloc(), &ONE_OF_FOUR, &[], &OF_FOUR);
 }

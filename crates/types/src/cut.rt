@@ -11,7 +11,7 @@ use std::error::Error;
 use std::fmt;
 
 /// The error of a source that failed.
-#[derive(Clone, Copy, Debug, PartialEq, Eq)]
+#[derive(Debug, Drop)]
 pub struct IsCut;
 
 impl fmt::Display for IsCut {

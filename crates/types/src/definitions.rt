@@ -78,7 +78,7 @@ impl EncodeDefinition for Answer {
 }
 
 /// `Wrapped ::= [0] EXPLICIT INTEGER`.
-#[derive(Debug, Drop)]
+#[derive(Drop)]
 struct Wrapped {
     number: u32,
 }
@@ -131,11 +131,6 @@ const VALIDITY: [Read; 1] = [(
     "Validity { from: 5, until: Some(7) }",
 )];
 
-#[test]
-fn a_struct_is_read(rt: HostRuntime) {
-    takes::<Validity>(&rt, rt.alloc(), &VALIDITY);
-}
-
 const ENTRY: [Read; 1] = [(
     Mode::Der,
     &[0x30, 0x07, 0x02, 0x01, 0x05, 0x04, 0x02, 0x07, 0x08],
@@ -147,27 +142,27 @@ fn octets_are_lent(rt: HostRuntime) {
     lends::<Entry>(&rt, rt.alloc(), &ENTRY);
 }
 
-#[test]
-fn a_struct_is_written(rt: HostRuntime) {
-    let whole = Validity {
-        from: 5,
-        until: Some(0x80),
-    };
-    let octets: [u8; 9] = [0x30, 0x07, 0x02, 0x01, 0x05, 0x02, 0x02, 0x00, 0x80];
-    writes(&rt, rt.alloc(), &whole, Mode::Der, &octets);
-    let short = Validity {
-        from: 5,
-        until: None,
-    };
-    writes(
-        &rt,
-        rt.alloc(),
-        &short,
+/// Until when a `Validity` from 5 on is, and as which octets it is written in a mode.
+const WRITTEN: [(Option<u32>, Mode, &[u8]); 3] = [
+    (
+        Some(0x80),
         Mode::Der,
-        &[0x30, 0x03, 0x02, 0x01, 0x05],
-    );
-    let octets: [u8; 7] = [0x30, 0x80, 0x02, 0x01, 0x05, 0x00, 0x00];
-    writes(&rt, rt.alloc(), &short, Mode::Cer, &octets);
+        &[0x30, 0x07, 0x02, 0x01, 0x05, 0x02, 0x02, 0x00, 0x80],
+    ),
+    (None, Mode::Der, &[0x30, 0x03, 0x02, 0x01, 0x05]),
+    (None, Mode::Cer, &[0x30, 0x80, 0x02, 0x01, 0x05, 0x00, 0x00]),
+];
+
+#[test]
+fn a_struct_is_read_and_written(rt: HostRuntime) {
+    takes::<Validity>(&rt, rt.alloc(), &VALIDITY);
+    for (until, mode, octets) in &WRITTEN {
+        let validity = Validity {
+            from: 5,
+            until: *until,
+        };
+        writes(&rt, rt.alloc(), &validity, *mode, octets);
+    }
 }
 
 #[test]

@@ -3,7 +3,7 @@ ghost use Rattle.types.specs.declared.enumerated.CrlReason.TheVariants as reason
 ghost use Rattle.types.specs.declared.enumerated.Colour.TheVariants as colour;
 ghost use Rattle.std.specs.Prelude.{pos, negsuc};
 
-use crate::rows::{Again, Read, Written, come_back, reads, reads_and_rewrites};
+use crate::rows::{Again, Read, Written, reads, reads_and_come_back, reads_and_rewrites};
 use asn1::{Context, Enumerated, Enumeration, Implicit};
 use bcder::Mode;
 
@@ -13,7 +13,7 @@ use bcder::Mode;
 ///         unspecified (0), keyCompromise (1), cACompromise (2), affiliationChanged (3),
 ///         superseded (4), cessationOfOperation (5), certificateHold (6), removeFromCRL (8),
 ///         privilegeWithdrawn (9), aACompromise (10) }
-#[derive(Clone, Copy, Debug, PartialEq, Eq, Drop)]
+#[derive(Debug, Drop)]
 enum CrlReason {
     Unspecified,
     KeyCompromise,
@@ -74,7 +74,7 @@ impl Enumeration for CrlReason {
 }
 
 /// `Colour ::= ENUMERATED { red (-1), blue (300), ... }`.
-#[derive(Clone, Copy, Debug, PartialEq, Eq, Drop)]
+#[derive(Debug, Drop)]
 enum Colour {
     Red,
     Blue,
@@ -176,8 +176,7 @@ const AGAIN: [Again; 3] = [
 
 #[test]
 fn unknown_numbers_are_kept(rt: HostRuntime) {
-    reads::<Enumerated<Colour>>(&rt, rt.alloc(), &COLOURS);
-    come_back::<Enumerated<Colour>>(&rt, rt.alloc(), &AGAIN);
+    reads_and_come_back::<Enumerated<Colour>>(&rt, rt.alloc(), &COLOURS, &[], &AGAIN);
 }
 
 const TAGGED: [Read; 2] = [

@@ -7,7 +7,7 @@ ghost use Rattle.bcder.specs.calls.Meaning.{PieceMeans};
 ghost use Rattle.bcder.specs.declared.encode.error.EncodeError.TheVariants.{LongCerPrimitive};
 ghost use Rattle.bcder.specs.laws.Meanings.{PieceMeans_lawful};
 
-use crate::rows::{Again, Read, come_back, reads};
+use crate::rows::{Again, Read, reads_and_come_back};
 use asn1::{ClearContents, FromContents, Leaf, ToContents};
 use bcder::encode::{EncodeError, PrimitiveContent, WriteError};
 use bcder::{Mode, Tag};
@@ -108,6 +108,5 @@ const AGAIN: [Again; 3] = [
 
 #[test]
 fn one_octet_is_read_and_written(rt: HostRuntime) {
-    reads::<Leaf<Level>>(&rt, rt.alloc(), &LEVEL);
-    come_back::<Leaf<Level>>(&rt, rt.alloc(), &AGAIN);
+    reads_and_come_back::<Leaf<Level>>(&rt, rt.alloc(), &LEVEL, &[], &AGAIN);
 }

@@ -1,5 +1,5 @@
 //! SEQUENCE OF. Expected values are worked by hand from X.690, 8.10.
-use crate::rows::{Read, takes, writes};
+use crate::rows::{Again, Read, takes, takes_and_come_back, writes};
 use asn1::{Context, Implicit, Sequence, SequenceOf};
 use bcder::Mode;
 
@@ -43,9 +43,29 @@ const NUMBERS: [Read; 11] = [
     (Mode::Ber, &[0x30, 0x80, 0x02, 0x01, 0x05], "refused"),
 ];
 
+/// 0, 127, 128 and 4294967295.
+const FOUR: &[u8] = &[
+    0x30, 0x11, 0x02, 0x01, 0x00, 0x02, 0x01, 0x7F, 0x02, 0x02, 0x00, 0x80, 0x02, 0x05, 0x00, 0xFF,
+    0xFF, 0xFF, 0xFF,
+];
+
+const NUMBERS_AGAIN: [Again; 3] = [
+    (Mode::Der, FOUR, Mode::Ber, FOUR),
+    (
+        Mode::Der,
+        FOUR,
+        Mode::Cer,
+        &[
+            0x30, 0x80, 0x02, 0x01, 0x00, 0x02, 0x01, 0x7F, 0x02, 0x02, 0x00, 0x80, 0x02, 0x05,
+            0x00, 0xFF, 0xFF, 0xFF, 0xFF, 0x00, 0x00,
+        ],
+    ),
+    (Mode::Der, FOUR, Mode::Der, FOUR),
+];
+
 #[test]
-fn numbers_are_read(rt: HostRuntime) {
-    takes::<SequenceOf<u32>>(&rt, rt.alloc(), &NUMBERS);
+fn numbers_are_read_and_come_back(rt: HostRuntime) {
+    takes_and_come_back::<SequenceOf<u32>>(&rt, rt.alloc(), &NUMBERS, &[], &NUMBERS_AGAIN);
 }
 
 const ENDED: [Read; 1] = [(

@@ -12,7 +12,7 @@ use bcder::decode::{Constructed, DecodeError, IntoSource, Source};
 use std::alloc::Global;
 
 /// `Range ::= SEQUENCE { from INTEGER, until INTEGER OPTIONAL }`.
-#[derive(Debug, Drop)]
+#[derive(Drop)]
 struct Range {
     from: u32,
     until: Option<u32>,

@@ -1,5 +1,5 @@
 //! BIT STRING with named bits (X.680, 22.7; X.690, 11.2.2).
-use crate::rows::{Again, Read, Written, come_back, done, reads, reads_and_rewrites};
+use crate::rows::{Again, Read, Written, reads, reads_and_come_back};
 use asn1::{Context, Implicit, NamedBits, decode};
 use bcder::Mode;
 
@@ -87,11 +87,6 @@ const BITS_WRITTEN: [Written; 6] = [
     ),
 ];
 
-#[test]
-fn named_bits_are_read_and_written(rt: HostRuntime) {
-    reads_and_rewrites::<NamedBits>(&rt, rt.alloc(), &BITS, &BITS_WRITTEN);
-}
-
 const AGAIN: [Again; 3] = [
     (
         Mode::Ber,
@@ -114,14 +109,14 @@ const AGAIN: [Again; 3] = [
 ];
 
 #[test]
-fn named_bits_come_back(rt: HostRuntime) {
-    come_back::<NamedBits>(&rt, rt.alloc(), &AGAIN);
+fn named_bits_are_read_and_written(rt: HostRuntime) {
+    reads_and_come_back::<NamedBits>(&rt, rt.alloc(), &BITS, &BITS_WRITTEN, &AGAIN);
 }
 
 #[test]
 fn bits_are_told_by_their_names(rt: HostRuntime) {
     let octets: &[u8] = &[0x03, 0x02, 0x01, 0x86];
-    let usage = done(&rt, decode::<NamedBits, _>(rt.alloc(), Mode::Der, octets));
+    let usage = decode::<NamedBits, _>(rt.alloc(), Mode::Der, octets).expect(&rt, "refused");
     assert!(rt; usage.has(DIGITAL_SIGNATURE) && usage.has(KEY_CERT_SIGN) && usage.has(CRL_SIGN));
     assert!(rt; !usage.has(1) && !usage.has(ENCIPHER_ONLY) && !usage.has(DECIPHER_ONLY));
     assert!(rt; !usage.has(usize::MAX));

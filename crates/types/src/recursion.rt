@@ -2,7 +2,6 @@
 //! Expected values are worked by hand from X.690, 8.12 to 8.14.
 ghost use Rattle.asn1.specs.declared.choice.Choice2.TheVariants.{One, Two};
 
-use crate::rows::done;
 use asn1::{
     Any, Choice2, Context, Decode, DecodeParts, Explicit, Implicit, Parts, SetOf, Trace, Type,
     decode,
@@ -183,9 +182,11 @@ fn shown(rt: &impl Abort, alloc: Global, octets: &[u8]) -> String {
         Err(NoFilter::Octets(_)) => format!(in alloc; "refused"),
         Err(error) => format!(in alloc; "{error:?}"),
     };
-    let text = done(rt, text);
-    let text = done(rt, text.replace(alloc, "OctetString { octets: Whole(b", ""));
-    done(rt, text.replace(alloc, ") }", ""))
+    let text = text.expect(rt, "refused");
+    let text = text
+        .replace(alloc, "OctetString { octets: Whole(b", "")
+        .expect(rt, "refused");
+    text.replace(alloc, ") }", "").expect(rt, "refused")
 }
 
 #[test]

@@ -1,5 +1,5 @@
 //! RELATIVE-OID (X.680, 33; X.690, 8.20).
-use crate::rows::{Again, Read, Written, come_back, reads_and_rewrites};
+use crate::rows::{Again, Read, Written, reads_and_come_back};
 use asn1::RelativeOid;
 use bcder::Mode;
 
@@ -50,6 +50,5 @@ const AGAIN: [Again; 1] = [(
 
 #[test]
 fn relative_identifiers_are_read_and_written(rt: HostRuntime) {
-    reads_and_rewrites::<RelativeOid>(&rt, rt.alloc(), &IDENTIFIERS, &IDENTIFIERS_WRITTEN);
-    come_back::<RelativeOid>(&rt, rt.alloc(), &AGAIN);
+    reads_and_come_back::<RelativeOid>(&rt, rt.alloc(), &IDENTIFIERS, &IDENTIFIERS_WRITTEN, &AGAIN);
 }

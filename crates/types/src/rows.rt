@@ -24,11 +24,6 @@ pub type Written<'a> = (&'a [u8], Mode, &'a [u8]);
 /// encoded in that mode and decoded.
 pub type Again<'a> = (Mode, &'a [u8], Mode, &'a [u8]);
 
-/// Returns the result of a call that must not be refused.
-pub fn done<T, E: Debug>(rt: &impl Abort, outcome: Result<T, E>) -> T {
-    outcome.expect(rt, "refused")
-}
-
 /// Returns how what was read is shown, without the marks of types that are tagged.
 pub fn shown<T: Debug + Drop>(
     rt: &impl Abort,
@@ -38,10 +33,11 @@ pub fn shown<T: Debug + Drop>(
 ) -> String {
     match value {
         Some(value) => {
-            let text = done(rt, format!(in alloc; "{value:?}"));
-            done(rt, text.replace(alloc, ", mark: PhantomData<_>", ""))
+            let text = format!(in alloc; "{value:?}").expect(rt, "refused");
+            text.replace(alloc, ", mark: PhantomData<_>", "")
+                .expect(rt, "refused")
         }
-        None => done(rt, format!(in alloc; "{other}")),
+        None => format!(in alloc; "{other}").expect(rt, "refused"),
     }
 }
 
@@ -50,20 +46,11 @@ pub fn is_shown(rt: &impl Abort, mode: Mode, octets: &[u8], found: &str, wanted:
     assert_eq!(rt; found, wanted, "{octets:?} in {mode:?}");
 }
 
-/// Asserts that these octets are written.
-fn is_same(rt: &impl Abort, mode: Mode, found: &[u8], wanted: &[u8]) {
-    assert_eq!(rt; found, wanted, "in {mode:?}");
-}
-
-/// Returns a copy of octets, which a reader shares.
-fn shared(rt: &impl Abort, alloc: Global, octets: &[u8]) -> Bytes {
-    done(rt, Bytes::copy_from_slice(alloc, octets))
-}
-
 /// Reads the octets of each row as one value of a type.
 pub fn reads<T: Decode<BytesSource> + Debug>(rt: &impl Abort, alloc: Global, rows: &[Read<'_>]) {
     for (mode, octets, wanted) in rows {
-        let value = decode::<T, Bytes>(alloc, *mode, shared(rt, alloc, octets)).ok();
+        let shared = Bytes::copy_from_slice(alloc, octets).expect(rt, "no memory");
+        let value = decode::<T, Bytes>(alloc, *mode, shared).ok();
         let found = shown(rt, alloc, value, "refused");
         is_shown(rt, *mode, octets, found.as_str(), wanted);
     }
@@ -82,19 +69,27 @@ pub fn lends<'a, T: Decode<SliceSource<'a>> + Debug>(
     }
 }
 
-/// Returns how an error shows itself, or `read`.
-fn explained(rt: &impl Abort, alloc: Global, error: Option<TypeError>) -> String {
-    match error {
-        Some(error) => done(rt, format!(in alloc; "{error}")),
-        None => done(rt, format!(in alloc; "read")),
-    }
+/// Asserts how an error shows itself, or that octets are `read`.
+pub fn is_explained(
+    rt: &impl Abort,
+    alloc: Global,
+    mode: Mode,
+    octets: &[u8],
+    error: Option<TypeError>,
+    wanted: &str,
+) {
+    let found = match error {
+        Some(error) => format!(in alloc; "{error}").expect(rt, "refused"),
+        None => format!(in alloc; "read").expect(rt, "refused"),
+    };
+    is_shown(rt, mode, octets, found.as_str(), wanted);
 }
 
 /// Asserts that the octets of each row are refused with an error that shows itself so, or `read`.
 pub fn explains<'a, T: Decode<SliceSource<'a>>>(rt: &impl Abort, alloc: Global, rows: &[Read<'a>]) {
     for (mode, octets, wanted) in rows {
-        let found = explained(rt, alloc, decode_octets::<T>(alloc, *mode, octets).err());
-        is_shown(rt, *mode, octets, found.as_str(), wanted);
+        let error = decode_octets::<T>(alloc, *mode, octets).err();
+        is_explained(rt, alloc, *mode, octets, error, wanted);
     }
 }
 
@@ -107,7 +102,7 @@ fn read_cut<T: Decode<Cut>>(
     end: usize,
     whole: bool,
 ) -> Result<T, DecodeError<IsCut>> {
-    let octets = done(rt, octets.to_vec(alloc));
+    let octets = octets.to_vec(alloc).expect(rt, "refused");
     decode::<T, Cut>(alloc, mode, Cut::new(octets, end, whole))
 }
 
@@ -145,7 +140,8 @@ fn next<T: Decode<BytesSource>>(
 /// Takes a value of a type from the front of the octets of each row.
 pub fn takes<T: Decode<BytesSource> + Debug>(rt: &impl Abort, alloc: Global, rows: &[Read<'_>]) {
     for (mode, octets, wanted) in rows {
-        let found = match next::<T>(alloc, *mode, shared(rt, alloc, octets)) {
+        let shared = Bytes::copy_from_slice(alloc, octets).expect(rt, "no memory");
+        let found = match next::<T>(alloc, *mode, shared) {
             Ok(value) => shown(rt, alloc, value, "none"),
             Err(_) => shown(rt, alloc, None::<T>, "refused"),
         };
@@ -174,7 +170,7 @@ pub fn lends_and_rewrites<'a, T: Encode + Decode<SliceSource<'a>> + Debug>(
 ) {
     lends::<T>(rt, alloc, rows);
     for (octets, mode, wanted) in written {
-        let value = done(rt, decode::<T, &'a [u8]>(alloc, Mode::Ber, octets));
+        let value = decode::<T, &'a [u8]>(alloc, Mode::Ber, octets).expect(rt, "refused");
         writes(rt, alloc, &value, *mode, wanted);
     }
 }
@@ -192,8 +188,8 @@ pub fn takes_and_rewrites<T: Encode + Decode<BytesSource> + Debug>(
 
 /// Asserts that a value is written as these octets.
 pub fn writes<T: Encode>(rt: &impl Abort, alloc: Global, value: &T, mode: Mode, wanted: &[u8]) {
-    let found = done(rt, encode(alloc, mode, value));
-    is_same(rt, mode, found.as_slice(), wanted);
+    let found = encode(alloc, mode, value).expect(rt, "refused");
+    assert_eq!(rt; found.as_slice(), wanted, "in {mode:?}");
 }
 
 /// Reads the octets of each row in BER, and writes the value.
@@ -215,10 +211,8 @@ pub fn value<T: Decode<BytesSource>>(
     mode: Mode,
     octets: &[u8],
 ) -> T {
-    done(
-        rt,
-        decode::<T, Bytes>(alloc, mode, shared(rt, alloc, octets)),
-    )
+    let shared = Bytes::copy_from_slice(alloc, octets).expect(rt, "no memory");
+    decode::<T, Bytes>(alloc, mode, shared).expect(rt, "refused")
 }
 
 /// Reads the octets of each row, writes the value, and does so again with what `round_trip`
@@ -231,7 +225,39 @@ pub fn come_back<T: Clear + Decode<BytesSource>>(rt: &impl Abort, alloc: Global,
         let x = value::<T>(rt, alloc, *mode, octets);
         writes(rt, alloc, &x, *other, wanted);
         assert!(rt; is_decoded_back(&x, *other));
-        let y = done(rt, round_trip(alloc, *other, &x));
+        let y = round_trip(alloc, *other, &x).expect(rt, "refused");
         writes(rt, alloc, &y, *other, wanted);
     }
+}
+
+/// Reads the octets of some rows, writes the values of others, and does so again.
+pub fn reads_and_come_back<T: Clear + Decode<BytesSource> + Debug>(
+    rt: &impl Abort,
+    alloc: Global,
+    rows: &[Read<'_>],
+    written: &[Written<'_>],
+    again: &[Again<'_>],
+)
+    requires distinct { IsTrue T.distinct }
+    requires always { (mode : Rules) → IsTrue (T.always_clear mode) }
+{
+    reads::<T>(rt, alloc, rows);
+    rewrites::<T>(rt, alloc, written);
+    come_back::<T>(rt, alloc, again);
+}
+
+/// Takes the values of some rows, writes those of others, and does so again.
+pub fn takes_and_come_back<T: Clear + Decode<BytesSource> + Debug>(
+    rt: &impl Abort,
+    alloc: Global,
+    rows: &[Read<'_>],
+    written: &[Written<'_>],
+    again: &[Again<'_>],
+)
+    requires distinct { IsTrue T.distinct }
+    requires always { (mode : Rules) → IsTrue (T.always_clear mode) }
+{
+    takes::<T>(rt, alloc, rows);
+    rewrites::<T>(rt, alloc, written);
+    come_back::<T>(rt, alloc, again);
 }

@@ -1,5 +1,5 @@
 //! SET OF. Expected values are worked by hand from X.690, 8.12 and 11.6.
-use crate::rows::{Read, Written, takes, takes_and_rewrites, writes};
+use crate::rows::{Again, Read, Written, takes, takes_and_come_back, takes_and_rewrites, writes};
 use asn1::{Choice2, Context, Implicit, Sequence, SequenceOf, SetOf};
 use bcder::Mode;
 
@@ -70,11 +70,6 @@ const SIGNED: [Read; 2] = [
         "refused",
     ),
 ];
-
-#[test]
-fn octets_are_compared(rt: HostRuntime) {
-    takes::<SetOf<i8>>(&rt, rt.alloc(), &SIGNED);
-}
 
 // in DER the shorter list comes first, in CER the one whose first value does
 const LISTS: [Read; 4] = [
@@ -190,9 +185,25 @@ const REWRITTEN: [Written; 5] = [
     (&[0x31, 0x80, 0x00, 0x00], Mode::Der, &[0x31, 0x00]),
 ];
 
+// in DER in ascending order (X.690, 11.6)
+const AGAIN: [Again; 2] = [
+    (
+        Mode::Ber,
+        &[0x31, 0x06, 0x02, 0x01, 0x02, 0x02, 0x01, 0x01],
+        Mode::Ber,
+        &[0x31, 0x06, 0x02, 0x01, 0x02, 0x02, 0x01, 0x01],
+    ),
+    (
+        Mode::Ber,
+        &[0x31, 0x06, 0x02, 0x01, 0x02, 0x02, 0x01, 0x01],
+        Mode::Der,
+        &[0x31, 0x06, 0x02, 0x01, 0x01, 0x02, 0x01, 0x02],
+    ),
+];
+
 #[test]
 fn numbers_have_an_order(rt: HostRuntime) {
-    takes_and_rewrites::<SetOf<u32>>(&rt, rt.alloc(), &NUMBERS, &REWRITTEN);
+    takes_and_come_back::<SetOf<u32>>(&rt, rt.alloc(), &NUMBERS, &REWRITTEN, &AGAIN);
 }
 
 // lists that ascend in DER don't in CER
@@ -227,7 +238,9 @@ fn lists_are_ordered_by_their_rules(rt: HostRuntime) {
 }
 
 #[test]
-fn a_set_made_in_memory_is_written(rt: HostRuntime) {
+fn octets_are_compared(rt: HostRuntime) {
+    takes::<SetOf<i8>>(&rt, rt.alloc(), &SIGNED);
+    // a set made in memory
     let octets: [u8; 8] = [0x31, 0x06, 0x02, 0x01, 0x01, 0x02, 0x01, 0xFF];
     let mut items = Vec::new(rt.alloc());
     assert!(rt; items.push(-1i8).is_ok());

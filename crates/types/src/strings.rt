@@ -1,10 +1,7 @@
 //! Octet strings, bit strings and restricted character strings.
-use crate::rows::{Read, Written, done, reads, reads_and_rewrites};
-use asn1::decode;
+use crate::rows::{Again, Read, Written, reads, reads_and_come_back, reads_and_rewrites, value};
 use bcder::string::{Ia5String, NumericString, PrintableString, Utf8String};
 use bcder::{BitString, Mode, OctetString};
-use std::alloc::Global;
-use std::process::Abort;
 
 const OCTETS: [Read; 5] = [
     (
@@ -28,21 +25,21 @@ const OCTETS: [Read; 5] = [
     (Mode::Ber, &[0x24, 0x03, 0x02, 0x01, 0x07], "refused"),
 ];
 
-#[test]
-fn octet_strings_are_read(rt: HostRuntime) {
-    reads::<OctetString>(&rt, rt.alloc(), &OCTETS);
-}
+/// A string that was cut. In BER it is written so (X.690, 8.7.3).
+const SEGMENTS: &[u8] = &[0x24, 0x06, 0x04, 0x01, 0x07, 0x04, 0x01, 0x08];
 
-/// Reads an octet string in BER.
-fn read(rt: &impl Abort, alloc: Global, octets: &[u8]) -> OctetString {
-    done(rt, decode::<OctetString, &[u8]>(alloc, Mode::Ber, octets))
-}
+const OCTETS_AGAIN: [Again; 3] = [
+    (Mode::Ber, SEGMENTS, Mode::Ber, SEGMENTS),
+    (Mode::Ber, SEGMENTS, Mode::Cer, &[0x04, 0x02, 0x07, 0x08]),
+    (Mode::Ber, SEGMENTS, Mode::Der, &[0x04, 0x02, 0x07, 0x08]),
+];
 
 #[test]
-fn cut_octet_strings_are_read(rt: HostRuntime) {
-    let cut: &[u8] = &[0x24, 0x06, 0x04, 0x01, 0x07, 0x04, 0x01, 0x08];
-    let whole: &[u8] = &[0x04, 0x02, 0x07, 0x08];
-    assert!(rt; read(&rt, rt.alloc(), cut) == read(&rt, rt.alloc(), whole));
+fn octet_strings_are_read_and_come_back(rt: HostRuntime) {
+    reads_and_come_back::<OctetString>(&rt, rt.alloc(), &OCTETS, &[], &OCTETS_AGAIN);
+    let cut = value::<OctetString>(&rt, rt.alloc(), Mode::Ber, SEGMENTS);
+    let whole = value::<OctetString>(&rt, rt.alloc(), Mode::Ber, &[0x04, 0x02, 0x07, 0x08]);
+    assert!(rt; cut == whole);
 }
 
 const BITS: [Read; 8] = [

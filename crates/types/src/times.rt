@@ -1,6 +1,6 @@
 //! UTCTime (X.680, 47; X.690, 11.8) and GeneralizedTime (X.680, 46; X.690, 11.7).
 
-use crate::rows::{Again, Read, come_back, done, reads};
+use crate::rows::{Again, Read, come_back, reads_and_come_back};
 use asn1::{Choice2, DateTime, GeneralizedTime, UtcTime};
 use bcder::Mode::{Ber, Cer, Der};
 use std::alloc::Global;
@@ -193,20 +193,18 @@ const NO_TIMES: [i64; 4] = [253_402_300_800, -62_167_219_201, i64::MAX, i64::MIN
 fn is_after(rt: &impl Abort, alloc: Global, number: i64, wanted: &str) {
     let time = DateTime::from_unix_seconds(number).expect(rt, "no time");
     assert_eq!(rt; time.unix_seconds(), number);
-    let shown = done(rt, format!(in alloc; "{time}"));
+    let shown = format!(in alloc; "{time}").expect(rt, "refused");
     assert_eq!(rt; shown.as_str(), wanted);
 }
 
 #[test]
 fn utc_times(rt: HostRuntime) {
-    reads::<UtcTime>(&rt, rt.alloc(), &UTC);
-    come_back::<UtcTime>(&rt, rt.alloc(), &UTC_AGAIN);
+    reads_and_come_back::<UtcTime>(&rt, rt.alloc(), &UTC, &[], &UTC_AGAIN);
 }
 
 #[test]
 fn generalized_times(rt: HostRuntime) {
-    reads::<GeneralizedTime>(&rt, rt.alloc(), &GENERALIZED);
-    come_back::<GeneralizedTime>(&rt, rt.alloc(), &GENERALIZED_AGAIN);
+    reads_and_come_back::<GeneralizedTime>(&rt, rt.alloc(), &GENERALIZED, &[], &GENERALIZED_AGAIN);
 }
 
 #[test]

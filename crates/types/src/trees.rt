@@ -1,7 +1,6 @@
 //! A SEQUENCE that holds values of its own type, read and written with a limit of levels.
 //! Expected values are worked by hand from X.690, 8.9 and 8.10.
-use crate::rows::done;
-use asn1::{Any, ByRef, Sequence, SequenceOf, decode, encode};
+use asn1::{Any, Sequence, SequenceOf, decode, encode};
 use bcder::Mode;
 use bcder::decode::DecodeError;
 use bcder::encode::EncodeError;
@@ -39,13 +38,29 @@ pub enum NoTree {
     NoMemory,
 }
 
+/// Reads one level.
+fn level_of(alloc: Global, value: Any) -> Result<Level, DecodeError<Infallible>> {
+    value.decode_as::<Level>(alloc)
+}
+
+/// Writes one level.
+fn level_written(alloc: Global, mode: Mode, level: &Level) -> Result<Any, NoTree> {
+    match encode(alloc, mode, level) {
+        Ok(captured) => match decode::<Any, _>(alloc, mode, captured) {
+            Ok(value) => Ok(value),
+            Err(error) => Err(NoTree::Octets(error)),
+        },
+        Err(error) => Err(NoTree::Unwritten(error)),
+    }
+}
+
 /// Reads a tree of at most this many levels.
 #[cycle(tree)]
 pub fn tree_of(alloc: Global, value: Any, levels: u32) -> Result<Tree, NoTree> {
     if levels == 0 {
         return Err(NoTree::TooDeep);
     }
-    match value.decode_as::<Level>(alloc) {
+    match level_of(alloc, value) {
         Ok(Sequence((value, below))) => match trees_of(alloc, below, levels - 1) {
             Ok(children) => Ok(Tree { value, children }),
             Err(error) => Err(error),
@@ -76,16 +91,9 @@ pub fn written(alloc: Global, mode: Mode, tree: &Tree, levels: u32) -> Result<An
     if levels == 0 {
         return Err(NoTree::TooDeep);
     }
-    let below = match all_written(alloc, mode, &tree.children, levels - 1) {
-        Ok(below) => SequenceOf(below),
-        Err(error) => return Err(error),
-    };
-    match encode(alloc, mode, &Sequence((ByRef(&tree.value), ByRef(&below)))) {
-        Ok(captured) => match decode::<Any, _>(alloc, mode, captured) {
-            Ok(value) => Ok(value),
-            Err(error) => Err(NoTree::Octets(error)),
-        },
-        Err(error) => Err(NoTree::Unwritten(error)),
+    match all_written(alloc, mode, &tree.children, levels - 1) {
+        Ok(below) => level_written(alloc, mode, &Sequence((tree.value, SequenceOf(below)))),
+        Err(error) => Err(error),
     }
 }
 
@@ -188,7 +196,7 @@ fn shown(rt: &impl Abort, alloc: Global, mode: Mode, octets: &[u8]) -> String {
         Err(NoTree::Octets(_)) => format!(in alloc; "refused"),
         Err(error) => format!(in alloc; "{error:?}"),
     };
-    done(rt, text)
+    text.expect(rt, "refused")
 }
 
 #[test]
@@ -199,31 +207,27 @@ fn trees_hold_trees(rt: HostRuntime) {
     }
 }
 
-/// Returns whether a tree isn't written, as it has more levels than it may have.
-fn is_too_deep(alloc: Global, mode: Mode, tree: &Tree, levels: u32) -> bool {
-    matches!(written(alloc, mode, tree, levels), Err(NoTree::TooDeep))
-}
-
-/// Asserts that a tree that is read is written as the same octets, and not if it has more levels
-/// than it may have.
-fn is_written(rt: &impl Abort, alloc: Global, mode: Mode, octets: &[u8], levels: u32) {
-    if let Ok(tree) = read(alloc, mode, octets) {
-        let again = done(rt, written(alloc, mode, &tree, levels));
-        assert_eq!(rt; again.as_slice(), octets, "in {mode:?}");
-        assert!(rt; is_too_deep(alloc, mode, &tree, 0));
-    }
+/// Asserts that a tree is written as these octets, and not if it has more levels than it may have.
+fn is_written(rt: &impl Abort, alloc: Global, mode: Mode, tree: &Tree, octets: &[u8]) {
+    let again = written(alloc, mode, tree, 3).expect(rt, "refused");
+    assert_eq!(rt; again.as_slice(), octets, "in {mode:?}");
+    let refused = written(alloc, mode, tree, 0);
+    assert!(rt; matches!(refused, Err(NoTree::TooDeep)));
 }
 
 #[test]
 fn trees_are_written(rt: HostRuntime) {
     for (mode, octets, _) in &TREES {
-        is_written(&rt, rt.alloc(), *mode, octets, 3);
+        if let Ok(tree) = read(rt.alloc(), *mode, octets) {
+            is_written(&rt, rt.alloc(), *mode, &tree, octets);
+        }
     }
 }
 
 #[test]
 fn a_tree_that_is_too_deep_is_not_written(rt: HostRuntime) {
     let (mode, octets, _) = TREES[2];
-    let tree = done(&rt, read(rt.alloc(), mode, octets));
-    assert!(rt; is_too_deep(rt.alloc(), mode, &tree, 2));
+    let tree = read(rt.alloc(), mode, octets).expect(&rt, "refused");
+    let refused = written(rt.alloc(), mode, &tree, 2);
+    assert!(rt; matches!(refused, Err(NoTree::TooDeep)));
 }
