@@ -36,8 +36,8 @@ fn joined(alloc: Global) -> End {
     }
 }
 
-/// Finds out that the second number of a list has more than 32 bits. If memory runs out for the path
-/// to it, the position is told all the same.
+/// Finds out that the second number of a list has more than 32 bits. If memory runs out for the
+/// path to it, the position is told all the same.
 fn refuses(alloc: Global) -> End {
     let octets: &[u8] = &[
         0x30, 0x0A, 0x02, 0x01, 0x05, 0x02, 0x05, 0x01, 0x00, 0x00, 0x00, 0x00,

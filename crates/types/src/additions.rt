@@ -7,7 +7,7 @@ use bcder::decode::Source;
 /// `SEQUENCE { a INTEGER, ... }`.
 type Extensible = Sequence<(u32, ExtensionAdditions)>;
 
-/// The same, as a struct.
+/// A struct with the fields of `Extensible`.
 #[derive(Debug, Drop)]
 struct Version {
     number: u32,

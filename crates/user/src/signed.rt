@@ -31,7 +31,8 @@ pub struct Signed {
     pub attributes: u64,
 }
 
-/// A message is a SEQUENCE of an OBJECT IDENTIFIER and, with the explicit tag `[0]`, the signed data.
+/// A message is a SEQUENCE of an OBJECT IDENTIFIER and, with the explicit tag `[0]`, the signed
+/// data.
 impl Parts for Signed {
     fn take_parts<S: Source>(
         alloc: Global,
