@@ -183,20 +183,20 @@ impl<A: SetOrder, B: SetOrder, C: SetOrder, D: SetOrder> SetOrder for (A, B, C, 
 
 /// Five fields.
 impl<A: SetOrder, B: SetOrder, C: SetOrder, D: SetOrder, E: SetOrder> SetOrder for (A, B, C, D, E) {
-    ghost place = { ⟦<(A, (B, C, D, E)) as SetOrder>⟧.place };
+    ghost place = { ⟦<((A, B, C, D), E) as SetOrder>⟧.place };
 
     fn place(of_tag: u32) -> u32 {
-        <(A, (B, C, D, E))>::place(of_tag)
+        <((A, B, C, D), E)>::place(of_tag)
     }
 }
 
 /// Six fields.
 impl<A: SetOrder, B: SetOrder, C: SetOrder, D: SetOrder, E: SetOrder, F: SetOrder> SetOrder
     for (A, B, C, D, E, F) {
-    ghost place = { ⟦<(A, (B, C, D, E, F)) as SetOrder>⟧.place };
+    ghost place = { ⟦<((A, B, C, D), (E, F)) as SetOrder>⟧.place };
 
     fn place(of_tag: u32) -> u32 {
-        <(A, (B, C, D, E, F))>::place(of_tag)
+        <((A, B, C, D), (E, F))>::place(of_tag)
     }
 }
 
@@ -210,10 +210,10 @@ impl<
     F: SetOrder,
     G: SetOrder,
 > SetOrder for (A, B, C, D, E, F, G) {
-    ghost place = { ⟦<(A, (B, C, D, E, F, G)) as SetOrder>⟧.place };
+    ghost place = { ⟦<((A, B, C, D), (E, F, G)) as SetOrder>⟧.place };
 
     fn place(of_tag: u32) -> u32 {
-        <(A, (B, C, D, E, F, G))>::place(of_tag)
+        <((A, B, C, D), (E, F, G))>::place(of_tag)
     }
 }
 
@@ -228,10 +228,10 @@ impl<
     G: SetOrder,
     H: SetOrder,
 > SetOrder for (A, B, C, D, E, F, G, H) {
-    ghost place = { ⟦<(A, (B, C, D, E, F, G, H)) as SetOrder>⟧.place };
+    ghost place = { ⟦<((A, B, C, D), (E, F, G, H)) as SetOrder>⟧.place };
 
     fn place(of_tag: u32) -> u32 {
-        <(A, (B, C, D, E, F, G, H))>::place(of_tag)
+        <((A, B, C, D), (E, F, G, H))>::place(of_tag)
     }
 }
 
@@ -247,10 +247,10 @@ impl<
     H: SetOrder,
     I: SetOrder,
 > SetOrder for (A, B, C, D, E, F, G, H, I) {
-    ghost place = { ⟦<(A, (B, C, D, E, F, G, H, I)) as SetOrder>⟧.place };
+    ghost place = { ⟦<((A, B, C, D), (E, F, G, H, I)) as SetOrder>⟧.place };
 
     fn place(of_tag: u32) -> u32 {
-        <(A, (B, C, D, E, F, G, H, I))>::place(of_tag)
+        <((A, B, C, D), (E, F, G, H, I))>::place(of_tag)
     }
 }
 
@@ -267,10 +267,10 @@ impl<
     I: SetOrder,
     J: SetOrder,
 > SetOrder for (A, B, C, D, E, F, G, H, I, J) {
-    ghost place = { ⟦<(A, (B, C, D, E, F, G, H, I, J)) as SetOrder>⟧.place };
+    ghost place = { ⟦<((A, B, C, D), (E, F, G, H, I, J)) as SetOrder>⟧.place };
 
     fn place(of_tag: u32) -> u32 {
-        <(A, (B, C, D, E, F, G, H, I, J))>::place(of_tag)
+        <((A, B, C, D), (E, F, G, H, I, J))>::place(of_tag)
     }
 }
 
@@ -288,10 +288,10 @@ impl<
     J: SetOrder,
     K: SetOrder,
 > SetOrder for (A, B, C, D, E, F, G, H, I, J, K) {
-    ghost place = { ⟦<(A, (B, C, D, E, F, G, H, I, J, K)) as SetOrder>⟧.place };
+    ghost place = { ⟦<((A, B, C, D), (E, F, G, H, I, J, K)) as SetOrder>⟧.place };
 
     fn place(of_tag: u32) -> u32 {
-        <(A, (B, C, D, E, F, G, H, I, J, K))>::place(of_tag)
+        <((A, B, C, D), (E, F, G, H, I, J, K))>::place(of_tag)
     }
 }
 
@@ -310,9 +310,9 @@ impl<
     K: SetOrder,
     L: SetOrder,
 > SetOrder for (A, B, C, D, E, F, G, H, I, J, K, L) {
-    ghost place = { ⟦<(A, (B, C, D, E, F, G, H, I, J, K, L)) as SetOrder>⟧.place };
+    ghost place = { ⟦<((A, B, C, D), (E, F, G, H, I, J, K, L)) as SetOrder>⟧.place };
 
     fn place(of_tag: u32) -> u32 {
-        <(A, (B, C, D, E, F, G, H, I, J, K, L))>::place(of_tag)
+        <((A, B, C, D), (E, F, G, H, I, J, K, L))>::place(of_tag)
     }
 }

@@ -34,7 +34,7 @@ AreBlocksRight r text = (vs : List (List ℕ)) × AreBlocks text vs × AreAllRig
 abbrev pub HasBrokenBlock : Request → List ℕ → Type 0
 HasBrokenBlock r text = (b : Block) × IsAmong b text × IsBlockBroken r b
 
--- a text begins with a block, and breaks none; or it has no block, or a broken one
+-- a text begins with a block, and breaks none; or it has no block, or one that is broken
 abbrev pub IsTextRight : Request → List ℕ → Type 0
 IsTextRight r text = ((b : Block) × IsNext text b) × AreBlocksRight r text
 

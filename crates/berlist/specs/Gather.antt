@@ -29,7 +29,7 @@ pub record ListsValues (c : Reading) (text : List ℕ) : Type 0 where
 abbrev pub RefusesNext : {S : Type 0} → Reading → DecodeError S → Reading → Type 0
 RefusesNext c e d = IsWant e ⊎ refusals.Refuses cause_of any HasNoNext (λ _. ⊥) c e d
 
--- why no lines of the values up to the end were gathered: there was no memory, or there are others
+-- why no lines of the values up to the end were gathered: there was no memory, or these aren't values
 abbrev pub RefusesAll : {S : Type 0} → Reading → DecodeError S → Reading → Type 0
 RefusesAll c e d = IsWant e ⊎ RefusesValues cause_of c e d
 

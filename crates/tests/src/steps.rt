@@ -1,10 +1,10 @@
-//! Calls on sources, and what each answers, as data: each call stands here once.
+//! Calls on sources, and what each returns, as data: each call stands here once.
 use crate::asserts::Case;
 use crate::reading::{Refusal, why};
 use bcder::decode::{ContentError, DecodeError, LimitedSource, Source};
 use std::process::Abort;
 
-/// A call that each source has. Where the source fails, its answer is `None`.
+/// A call that each source has. If the source fails, its result is `None`.
 #[derive(Clone, Copy)]
 pub enum Step {
     /// Requests octets, finds so many, and passes over the first of them.
@@ -67,8 +67,8 @@ fn keeps<S: Source>(case: &Case<'_, impl Abort>, source: &mut S, octets: &[u8]) 
     }
 }
 
-/// Makes a call, and returns whether it answers so.
-fn answers<S: Source>(case: &Case<'_, impl Abort>, source: &mut S, step: Step) -> bool {
+/// Makes a call, and returns whether its result is the wanted one.
+fn is_as_wanted<S: Source>(case: &Case<'_, impl Abort>, source: &mut S, step: Step) -> bool {
     match step {
         Step::Request(len, found, passed) => request(source, len, passed) == found,
         Step::Least(len) => request(source, len, 0) >= Some(len),
@@ -84,10 +84,10 @@ fn answers<S: Source>(case: &Case<'_, impl Abort>, source: &mut S, step: Step) -
     }
 }
 
-/// Makes calls on a source, and checks what each answers.
+/// Makes calls on a source, and checks what each returns.
 pub fn follow<S: Source>(case: &Case<'_, impl Abort>, source: &mut S, steps: &[Step]) {
     for (number, step) in steps.iter().enumerate() {
-        case.at(number, answers(case, source, *step));
+        case.at(number, is_as_wanted(case, source, *step));
     }
 }
 
@@ -128,14 +128,14 @@ fn takes_all<S: Source>(
     }
 }
 
-/// Makes a call on a source with a limit, and returns whether it answers so.
-fn limit_answers<S: Source>(
+/// Makes a call on a source with a limit, and returns whether its result is the wanted one.
+fn is_as_wanted_of_limited<S: Source>(
     case: &Case<'_, impl Abort>,
     source: &mut LimitedSource<S>,
     step: Limit,
 ) -> bool {
     match step {
-        Limit::Of(step) => answers(case, source, step),
+        Limit::Of(step) => is_as_wanted(case, source, step),
         Limit::Is(limit) => source.limit() == limit,
         Limit::Set(limit) => {
             source.set_limit(limit);
@@ -150,13 +150,13 @@ fn limit_answers<S: Source>(
     }
 }
 
-/// Makes calls on a source with a limit, and checks what each answers.
+/// Makes calls on a source with a limit, and checks what each returns.
 pub fn follow_limit<S: Source>(
     case: &Case<'_, impl Abort>,
     source: &mut LimitedSource<S>,
     steps: &[Limit],
 ) {
     for (number, step) in steps.iter().enumerate() {
-        case.at(number, limit_answers(case, source, *step));
+        case.at(number, is_as_wanted_of_limited(case, source, *step));
     }
 }

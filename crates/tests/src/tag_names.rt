@@ -89,13 +89,13 @@ fn tags_are_debugged_by_their_fields(rt: HostRuntime) {
     assert_eq!(rt; text.as_str(), "Tag { class: ContextSpecific, number: 1 }");
 }
 
-/// Compares what a mode says of itself with these answers: for BER, CER and DER.
-fn check_mode(rt: &impl Abort, mode: Mode, answers: [bool; 3]) {
-    same(rt, [mode.is_ber(), mode.is_cer(), mode.is_der()], answers);
+/// Compares what a mode says of itself with what is wanted for BER, CER and DER.
+fn check_mode(rt: &impl Abort, mode: Mode, wanted: [bool; 3]) {
+    same(rt, [mode.is_ber(), mode.is_cer(), mode.is_der()], wanted);
     same(
         rt,
         [mode == Mode::Ber, mode == Mode::Cer, mode == Mode::Der],
-        answers,
+        wanted,
     );
 }
 

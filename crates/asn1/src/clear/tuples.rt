@@ -63,27 +63,27 @@ impl<A: ClearFields, B: ClearFields, C: ClearFields, D: ClearFields> ClearFields
 /// Five fields.
 impl<A: ClearFields, B: ClearFields, C: ClearFields, D: ClearFields, E: ClearFields> ClearFields
     for (A, B, C, D, E) {
-    ghost first_tags = { ⟦<(A, (B, C, D, E)) as ClearFields>⟧.first_tags };
+    ghost first_tags = { ⟦<((A, B, C, D), E) as ClearFields>⟧.first_tags };
 
-    ghost may_be_none = { ⟦<(A, (B, C, D, E)) as ClearFields>⟧.may_be_none };
+    ghost may_be_none = { ⟦<((A, B, C, D), E) as ClearFields>⟧.may_be_none };
 
-    ghost barred_tags = { ⟦<(A, (B, C, D, E)) as ClearFields>⟧.barred_tags };
+    ghost barred_tags = { ⟦<((A, B, C, D), E) as ClearFields>⟧.barred_tags };
 
-    ghost tag_set = { ⟦<(A, (B, C, D, E)) as ClearFields>⟧.tag_set };
+    ghost tag_set = { ⟦<((A, B, C, D), E) as ClearFields>⟧.tag_set };
 
-    ghost ascend = { ⟦<(A, (B, C, D, E)) as ClearFields>⟧.ascend };
+    ghost ascend = { ⟦<((A, B, C, D), E) as ClearFields>⟧.ascend };
 
-    ghost distinct = { ⟦<(A, (B, C, D, E)) as ClearFields>⟧.distinct };
+    ghost distinct = { ⟦<((A, B, C, D), E) as ClearFields>⟧.distinct };
 
-    ghost always_clear = { ⟦<(A, (B, C, D, E)) as ClearFields>⟧.always_clear };
+    ghost always_clear = { ⟦<((A, B, C, D), E) as ClearFields>⟧.always_clear };
 
     fn are_clear_in(&self, mode: Mode) -> bool {
         let (a, b, c, d, e) = self;
-        (ByRef(a), row!(b, c, d, e)).are_clear_in(mode)
+        (row!(a, b, c, d), row!(e)).are_clear_in(mode)
     }
 
     fn are_told_apart(mode: Mode) {
-        <(A, (B, C, D, E))>::are_told_apart(mode);
+        <((A, B, C, D), E)>::are_told_apart(mode);
     }
 }
 
@@ -96,27 +96,27 @@ impl<
     E: ClearFields,
     F: ClearFields,
 > ClearFields for (A, B, C, D, E, F) {
-    ghost first_tags = { ⟦<(A, (B, C, D, E, F)) as ClearFields>⟧.first_tags };
+    ghost first_tags = { ⟦<((A, B, C, D), (E, F)) as ClearFields>⟧.first_tags };
 
-    ghost may_be_none = { ⟦<(A, (B, C, D, E, F)) as ClearFields>⟧.may_be_none };
+    ghost may_be_none = { ⟦<((A, B, C, D), (E, F)) as ClearFields>⟧.may_be_none };
 
-    ghost barred_tags = { ⟦<(A, (B, C, D, E, F)) as ClearFields>⟧.barred_tags };
+    ghost barred_tags = { ⟦<((A, B, C, D), (E, F)) as ClearFields>⟧.barred_tags };
 
-    ghost tag_set = { ⟦<(A, (B, C, D, E, F)) as ClearFields>⟧.tag_set };
+    ghost tag_set = { ⟦<((A, B, C, D), (E, F)) as ClearFields>⟧.tag_set };
 
-    ghost ascend = { ⟦<(A, (B, C, D, E, F)) as ClearFields>⟧.ascend };
+    ghost ascend = { ⟦<((A, B, C, D), (E, F)) as ClearFields>⟧.ascend };
 
-    ghost distinct = { ⟦<(A, (B, C, D, E, F)) as ClearFields>⟧.distinct };
+    ghost distinct = { ⟦<((A, B, C, D), (E, F)) as ClearFields>⟧.distinct };
 
-    ghost always_clear = { ⟦<(A, (B, C, D, E, F)) as ClearFields>⟧.always_clear };
+    ghost always_clear = { ⟦<((A, B, C, D), (E, F)) as ClearFields>⟧.always_clear };
 
     fn are_clear_in(&self, mode: Mode) -> bool {
         let (a, b, c, d, e, f) = self;
-        (ByRef(a), row!(b, c, d, e, f)).are_clear_in(mode)
+        (row!(a, b, c, d), row!(e, f)).are_clear_in(mode)
     }
 
     fn are_told_apart(mode: Mode) {
-        <(A, (B, C, D, E, F))>::are_told_apart(mode);
+        <((A, B, C, D), (E, F))>::are_told_apart(mode);
     }
 }
 
@@ -130,27 +130,27 @@ impl<
     F: ClearFields,
     G: ClearFields,
 > ClearFields for (A, B, C, D, E, F, G) {
-    ghost first_tags = { ⟦<(A, (B, C, D, E, F, G)) as ClearFields>⟧.first_tags };
+    ghost first_tags = { ⟦<((A, B, C, D), (E, F, G)) as ClearFields>⟧.first_tags };
 
-    ghost may_be_none = { ⟦<(A, (B, C, D, E, F, G)) as ClearFields>⟧.may_be_none };
+    ghost may_be_none = { ⟦<((A, B, C, D), (E, F, G)) as ClearFields>⟧.may_be_none };
 
-    ghost barred_tags = { ⟦<(A, (B, C, D, E, F, G)) as ClearFields>⟧.barred_tags };
+    ghost barred_tags = { ⟦<((A, B, C, D), (E, F, G)) as ClearFields>⟧.barred_tags };
 
-    ghost tag_set = { ⟦<(A, (B, C, D, E, F, G)) as ClearFields>⟧.tag_set };
+    ghost tag_set = { ⟦<((A, B, C, D), (E, F, G)) as ClearFields>⟧.tag_set };
 
-    ghost ascend = { ⟦<(A, (B, C, D, E, F, G)) as ClearFields>⟧.ascend };
+    ghost ascend = { ⟦<((A, B, C, D), (E, F, G)) as ClearFields>⟧.ascend };
 
-    ghost distinct = { ⟦<(A, (B, C, D, E, F, G)) as ClearFields>⟧.distinct };
+    ghost distinct = { ⟦<((A, B, C, D), (E, F, G)) as ClearFields>⟧.distinct };
 
-    ghost always_clear = { ⟦<(A, (B, C, D, E, F, G)) as ClearFields>⟧.always_clear };
+    ghost always_clear = { ⟦<((A, B, C, D), (E, F, G)) as ClearFields>⟧.always_clear };
 
     fn are_clear_in(&self, mode: Mode) -> bool {
         let (a, b, c, d, e, f, g) = self;
-        (ByRef(a), row!(b, c, d, e, f, g)).are_clear_in(mode)
+        (row!(a, b, c, d), row!(e, f, g)).are_clear_in(mode)
     }
 
     fn are_told_apart(mode: Mode) {
-        <(A, (B, C, D, E, F, G))>::are_told_apart(mode);
+        <((A, B, C, D), (E, F, G))>::are_told_apart(mode);
     }
 }
 
@@ -165,27 +165,27 @@ impl<
     G: ClearFields,
     H: ClearFields,
 > ClearFields for (A, B, C, D, E, F, G, H) {
-    ghost first_tags = { ⟦<(A, (B, C, D, E, F, G, H)) as ClearFields>⟧.first_tags };
+    ghost first_tags = { ⟦<((A, B, C, D), (E, F, G, H)) as ClearFields>⟧.first_tags };
 
-    ghost may_be_none = { ⟦<(A, (B, C, D, E, F, G, H)) as ClearFields>⟧.may_be_none };
+    ghost may_be_none = { ⟦<((A, B, C, D), (E, F, G, H)) as ClearFields>⟧.may_be_none };
 
-    ghost barred_tags = { ⟦<(A, (B, C, D, E, F, G, H)) as ClearFields>⟧.barred_tags };
+    ghost barred_tags = { ⟦<((A, B, C, D), (E, F, G, H)) as ClearFields>⟧.barred_tags };
 
-    ghost tag_set = { ⟦<(A, (B, C, D, E, F, G, H)) as ClearFields>⟧.tag_set };
+    ghost tag_set = { ⟦<((A, B, C, D), (E, F, G, H)) as ClearFields>⟧.tag_set };
 
-    ghost ascend = { ⟦<(A, (B, C, D, E, F, G, H)) as ClearFields>⟧.ascend };
+    ghost ascend = { ⟦<((A, B, C, D), (E, F, G, H)) as ClearFields>⟧.ascend };
 
-    ghost distinct = { ⟦<(A, (B, C, D, E, F, G, H)) as ClearFields>⟧.distinct };
+    ghost distinct = { ⟦<((A, B, C, D), (E, F, G, H)) as ClearFields>⟧.distinct };
 
-    ghost always_clear = { ⟦<(A, (B, C, D, E, F, G, H)) as ClearFields>⟧.always_clear };
+    ghost always_clear = { ⟦<((A, B, C, D), (E, F, G, H)) as ClearFields>⟧.always_clear };
 
     fn are_clear_in(&self, mode: Mode) -> bool {
         let (a, b, c, d, e, f, g, h) = self;
-        (ByRef(a), row!(b, c, d, e, f, g, h)).are_clear_in(mode)
+        (row!(a, b, c, d), row!(e, f, g, h)).are_clear_in(mode)
     }
 
     fn are_told_apart(mode: Mode) {
-        <(A, (B, C, D, E, F, G, H))>::are_told_apart(mode);
+        <((A, B, C, D), (E, F, G, H))>::are_told_apart(mode);
     }
 }
 
@@ -201,27 +201,27 @@ impl<
     H: ClearFields,
     I: ClearFields,
 > ClearFields for (A, B, C, D, E, F, G, H, I) {
-    ghost first_tags = { ⟦<(A, (B, C, D, E, F, G, H, I)) as ClearFields>⟧.first_tags };
+    ghost first_tags = { ⟦<((A, B, C, D), (E, F, G, H, I)) as ClearFields>⟧.first_tags };
 
-    ghost may_be_none = { ⟦<(A, (B, C, D, E, F, G, H, I)) as ClearFields>⟧.may_be_none };
+    ghost may_be_none = { ⟦<((A, B, C, D), (E, F, G, H, I)) as ClearFields>⟧.may_be_none };
 
-    ghost barred_tags = { ⟦<(A, (B, C, D, E, F, G, H, I)) as ClearFields>⟧.barred_tags };
+    ghost barred_tags = { ⟦<((A, B, C, D), (E, F, G, H, I)) as ClearFields>⟧.barred_tags };
 
-    ghost tag_set = { ⟦<(A, (B, C, D, E, F, G, H, I)) as ClearFields>⟧.tag_set };
+    ghost tag_set = { ⟦<((A, B, C, D), (E, F, G, H, I)) as ClearFields>⟧.tag_set };
 
-    ghost ascend = { ⟦<(A, (B, C, D, E, F, G, H, I)) as ClearFields>⟧.ascend };
+    ghost ascend = { ⟦<((A, B, C, D), (E, F, G, H, I)) as ClearFields>⟧.ascend };
 
-    ghost distinct = { ⟦<(A, (B, C, D, E, F, G, H, I)) as ClearFields>⟧.distinct };
+    ghost distinct = { ⟦<((A, B, C, D), (E, F, G, H, I)) as ClearFields>⟧.distinct };
 
-    ghost always_clear = { ⟦<(A, (B, C, D, E, F, G, H, I)) as ClearFields>⟧.always_clear };
+    ghost always_clear = { ⟦<((A, B, C, D), (E, F, G, H, I)) as ClearFields>⟧.always_clear };
 
     fn are_clear_in(&self, mode: Mode) -> bool {
         let (a, b, c, d, e, f, g, h, i) = self;
-        (ByRef(a), row!(b, c, d, e, f, g, h, i)).are_clear_in(mode)
+        (row!(a, b, c, d), row!(e, f, g, h, i)).are_clear_in(mode)
     }
 
     fn are_told_apart(mode: Mode) {
-        <(A, (B, C, D, E, F, G, H, I))>::are_told_apart(mode);
+        <((A, B, C, D), (E, F, G, H, I))>::are_told_apart(mode);
     }
 }
 
@@ -238,27 +238,27 @@ impl<
     I: ClearFields,
     J: ClearFields,
 > ClearFields for (A, B, C, D, E, F, G, H, I, J) {
-    ghost first_tags = { ⟦<(A, (B, C, D, E, F, G, H, I, J)) as ClearFields>⟧.first_tags };
+    ghost first_tags = { ⟦<((A, B, C, D), (E, F, G, H, I, J)) as ClearFields>⟧.first_tags };
 
-    ghost may_be_none = { ⟦<(A, (B, C, D, E, F, G, H, I, J)) as ClearFields>⟧.may_be_none };
+    ghost may_be_none = { ⟦<((A, B, C, D), (E, F, G, H, I, J)) as ClearFields>⟧.may_be_none };
 
-    ghost barred_tags = { ⟦<(A, (B, C, D, E, F, G, H, I, J)) as ClearFields>⟧.barred_tags };
+    ghost barred_tags = { ⟦<((A, B, C, D), (E, F, G, H, I, J)) as ClearFields>⟧.barred_tags };
 
-    ghost tag_set = { ⟦<(A, (B, C, D, E, F, G, H, I, J)) as ClearFields>⟧.tag_set };
+    ghost tag_set = { ⟦<((A, B, C, D), (E, F, G, H, I, J)) as ClearFields>⟧.tag_set };
 
-    ghost ascend = { ⟦<(A, (B, C, D, E, F, G, H, I, J)) as ClearFields>⟧.ascend };
+    ghost ascend = { ⟦<((A, B, C, D), (E, F, G, H, I, J)) as ClearFields>⟧.ascend };
 
-    ghost distinct = { ⟦<(A, (B, C, D, E, F, G, H, I, J)) as ClearFields>⟧.distinct };
+    ghost distinct = { ⟦<((A, B, C, D), (E, F, G, H, I, J)) as ClearFields>⟧.distinct };
 
-    ghost always_clear = { ⟦<(A, (B, C, D, E, F, G, H, I, J)) as ClearFields>⟧.always_clear };
+    ghost always_clear = { ⟦<((A, B, C, D), (E, F, G, H, I, J)) as ClearFields>⟧.always_clear };
 
     fn are_clear_in(&self, mode: Mode) -> bool {
         let (a, b, c, d, e, f, g, h, i, j) = self;
-        (ByRef(a), row!(b, c, d, e, f, g, h, i, j)).are_clear_in(mode)
+        (row!(a, b, c, d), row!(e, f, g, h, i, j)).are_clear_in(mode)
     }
 
     fn are_told_apart(mode: Mode) {
-        <(A, (B, C, D, E, F, G, H, I, J))>::are_told_apart(mode);
+        <((A, B, C, D), (E, F, G, H, I, J))>::are_told_apart(mode);
     }
 }
 
@@ -276,27 +276,27 @@ impl<
     J: ClearFields,
     K: ClearFields,
 > ClearFields for (A, B, C, D, E, F, G, H, I, J, K) {
-    ghost first_tags = { ⟦<(A, (B, C, D, E, F, G, H, I, J, K)) as ClearFields>⟧.first_tags };
+    ghost first_tags = { ⟦<((A, B, C, D), (E, F, G, H, I, J, K)) as ClearFields>⟧.first_tags };
 
-    ghost may_be_none = { ⟦<(A, (B, C, D, E, F, G, H, I, J, K)) as ClearFields>⟧.may_be_none };
+    ghost may_be_none = { ⟦<((A, B, C, D), (E, F, G, H, I, J, K)) as ClearFields>⟧.may_be_none };
 
-    ghost barred_tags = { ⟦<(A, (B, C, D, E, F, G, H, I, J, K)) as ClearFields>⟧.barred_tags };
+    ghost barred_tags = { ⟦<((A, B, C, D), (E, F, G, H, I, J, K)) as ClearFields>⟧.barred_tags };
 
-    ghost tag_set = { ⟦<(A, (B, C, D, E, F, G, H, I, J, K)) as ClearFields>⟧.tag_set };
+    ghost tag_set = { ⟦<((A, B, C, D), (E, F, G, H, I, J, K)) as ClearFields>⟧.tag_set };
 
-    ghost ascend = { ⟦<(A, (B, C, D, E, F, G, H, I, J, K)) as ClearFields>⟧.ascend };
+    ghost ascend = { ⟦<((A, B, C, D), (E, F, G, H, I, J, K)) as ClearFields>⟧.ascend };
 
-    ghost distinct = { ⟦<(A, (B, C, D, E, F, G, H, I, J, K)) as ClearFields>⟧.distinct };
+    ghost distinct = { ⟦<((A, B, C, D), (E, F, G, H, I, J, K)) as ClearFields>⟧.distinct };
 
-    ghost always_clear = { ⟦<(A, (B, C, D, E, F, G, H, I, J, K)) as ClearFields>⟧.always_clear };
+    ghost always_clear = { ⟦<((A, B, C, D), (E, F, G, H, I, J, K)) as ClearFields>⟧.always_clear };
 
     fn are_clear_in(&self, mode: Mode) -> bool {
         let (a, b, c, d, e, f, g, h, i, j, k) = self;
-        (ByRef(a), row!(b, c, d, e, f, g, h, i, j, k)).are_clear_in(mode)
+        (row!(a, b, c, d), row!(e, f, g, h, i, j, k)).are_clear_in(mode)
     }
 
     fn are_told_apart(mode: Mode) {
-        <(A, (B, C, D, E, F, G, H, I, J, K))>::are_told_apart(mode);
+        <((A, B, C, D), (E, F, G, H, I, J, K))>::are_told_apart(mode);
     }
 }
 
@@ -315,26 +315,26 @@ impl<
     K: ClearFields,
     L: ClearFields,
 > ClearFields for (A, B, C, D, E, F, G, H, I, J, K, L) {
-    ghost first_tags = { ⟦<(A, (B, C, D, E, F, G, H, I, J, K, L)) as ClearFields>⟧.first_tags };
+    ghost first_tags = { ⟦<((A, B, C, D), (E, F, G, H, I, J, K, L)) as ClearFields>⟧.first_tags };
 
-    ghost may_be_none = { ⟦<(A, (B, C, D, E, F, G, H, I, J, K, L)) as ClearFields>⟧.may_be_none };
+    ghost may_be_none = { ⟦<((A, B, C, D), (E, F, G, H, I, J, K, L)) as ClearFields>⟧.may_be_none };
 
-    ghost barred_tags = { ⟦<(A, (B, C, D, E, F, G, H, I, J, K, L)) as ClearFields>⟧.barred_tags };
+    ghost barred_tags = { ⟦<((A, B, C, D), (E, F, G, H, I, J, K, L)) as ClearFields>⟧.barred_tags };
 
-    ghost tag_set = { ⟦<(A, (B, C, D, E, F, G, H, I, J, K, L)) as ClearFields>⟧.tag_set };
+    ghost tag_set = { ⟦<((A, B, C, D), (E, F, G, H, I, J, K, L)) as ClearFields>⟧.tag_set };
 
-    ghost ascend = { ⟦<(A, (B, C, D, E, F, G, H, I, J, K, L)) as ClearFields>⟧.ascend };
+    ghost ascend = { ⟦<((A, B, C, D), (E, F, G, H, I, J, K, L)) as ClearFields>⟧.ascend };
 
-    ghost distinct = { ⟦<(A, (B, C, D, E, F, G, H, I, J, K, L)) as ClearFields>⟧.distinct };
+    ghost distinct = { ⟦<((A, B, C, D), (E, F, G, H, I, J, K, L)) as ClearFields>⟧.distinct };
 
-    ghost always_clear = { ⟦<(A, (B, C, D, E, F, G, H, I, J, K, L)) as ClearFields>⟧.always_clear };
+    ghost always_clear = { ⟦<((A, B, C, D), (E, F, G, H, I, J, K, L)) as ClearFields>⟧.always_clear };
 
     fn are_clear_in(&self, mode: Mode) -> bool {
         let (a, b, c, d, e, f, g, h, i, j, k, l) = self;
-        (ByRef(a), row!(b, c, d, e, f, g, h, i, j, k, l)).are_clear_in(mode)
+        (row!(a, b, c, d), row!(e, f, g, h, i, j, k, l)).are_clear_in(mode)
     }
 
     fn are_told_apart(mode: Mode) {
-        <(A, (B, C, D, E, F, G, H, I, J, K, L))>::are_told_apart(mode);
+        <((A, B, C, D), (E, F, G, H, I, J, K, L))>::are_told_apart(mode);
     }
 }

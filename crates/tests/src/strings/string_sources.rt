@@ -6,7 +6,7 @@ use bcder::decode::IntoSource;
 use bcder::{Mode, OctetString};
 use std::process::Abort;
 
-/// Checks what the source of a string answers.
+/// Checks what the source of a string returns.
 fn check(case: &Case<'_, impl Abort>, string: OctetString, steps: &[Step]) {
     follow(case, &mut string.into_source(), steps);
 }

@@ -1,11 +1,11 @@
-use Rattle.asn1.specs.Tuples.{first_of_11}
+use Rattle.asn1.specs.Tuples.{grouped_11}
 use Rattle.asn1.proofs.tuples.Tuple11Fields.fields_are_one.Goals as goal
 
 pub returns-clause-one : goal.returns-clause-one
-returns-clause-one g c = λ mode ts us vs x y. c.fields_are_one.ensures.one mode ts us vs (first_of_11 x) (first_of_11 y)
+returns-clause-one g c = λ mode ts us vs x y. c.fields_are_one.ensures.one mode ts us vs (grouped_11 x) (grouped_11 y)
 
 pub returns-clause-left : goal.returns-clause-left
-returns-clause-left g c = λ mode ts us x. c.fields_are_one.ensures.left mode ts us (first_of_11 x)
+returns-clause-left g c = λ mode ts us x. c.fields_are_one.ensures.left mode ts us (grouped_11 x)
 
 pub returns-clause-once : goal.returns-clause-once
-returns-clause-once g c = λ k mode ne ts us vs x y. c.fields_are_one.ensures.once k mode ne ts us vs (first_of_11 x) (first_of_11 y)
+returns-clause-once g c = λ k mode ne ts us vs x y. c.fields_are_one.ensures.once k mode ne ts us vs (grouped_11 x) (grouped_11 y)

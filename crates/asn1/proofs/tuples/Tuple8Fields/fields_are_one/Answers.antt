@@ -1,11 +1,11 @@
-use Rattle.asn1.specs.Tuples.{first_of_8}
+use Rattle.asn1.specs.Tuples.{grouped_8}
 use Rattle.asn1.proofs.tuples.Tuple8Fields.fields_are_one.Goals as goal
 
 pub returns-clause-one : goal.returns-clause-one
-returns-clause-one g c = λ mode ts us vs x y. c.fields_are_one.ensures.one mode ts us vs (first_of_8 x) (first_of_8 y)
+returns-clause-one g c = λ mode ts us vs x y. c.fields_are_one.ensures.one mode ts us vs (grouped_8 x) (grouped_8 y)
 
 pub returns-clause-left : goal.returns-clause-left
-returns-clause-left g c = λ mode ts us x. c.fields_are_one.ensures.left mode ts us (first_of_8 x)
+returns-clause-left g c = λ mode ts us x. c.fields_are_one.ensures.left mode ts us (grouped_8 x)
 
 pub returns-clause-once : goal.returns-clause-once
-returns-clause-once g c = λ k mode ne ts us vs x y. c.fields_are_one.ensures.once k mode ne ts us vs (first_of_8 x) (first_of_8 y)
+returns-clause-once g c = λ k mode ne ts us vs x y. c.fields_are_one.ensures.once k mode ne ts us vs (grouped_8 x) (grouped_8 y)

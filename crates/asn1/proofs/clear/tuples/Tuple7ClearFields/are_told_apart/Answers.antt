@@ -1,15 +1,14 @@
-use Rattle.asn1.specs.Tuples.{first_of_7}
-use Rattle.asn1.proofs.Rows.{behind_as_last}
+use Rattle.asn1.specs.Tuples.{grouped_7}
 use Rattle.asn1.proofs.clear.tuples.Tuple7ClearFields.are_told_apart.Goals as goal
 
 pub returns-clause-begin : goal.returns-clause-begin
-returns-clause-begin g c = λ d x k e m. c.are_told_apart.ensures.begin d (first_of_7 x) k e (behind_as_last _ _ e m)
+returns-clause-begin g c = λ d x k e m. c.are_told_apart.ensures.begin d (grouped_7 x) k e m
 
 pub returns-clause-follow : goal.returns-clause-follow
-returns-clause-follow g c = λ d x k us b. c.are_told_apart.ensures.follow d (first_of_7 x) k us b
+returns-clause-follow g c = λ d x k us b. c.are_told_apart.ensures.follow d (grouped_7 x) k us b
 
 pub returns-clause-within : goal.returns-clause-within
-returns-clause-within g c = λ d x k e m. c.are_told_apart.ensures.within d (first_of_7 x) k e (behind_as_last _ _ e m)
+returns-clause-within g c = λ d x k e m. c.are_told_apart.ensures.within d (grouped_7 x) k e m
 
 pub returns-clause-rise : goal.returns-clause-rise
-returns-clause-rise g c = λ d place a x k e m. c.are_told_apart.ensures.rise d place a (first_of_7 x) k e (behind_as_last _ _ e m)
+returns-clause-rise g c = λ d place a x k e m. c.are_told_apart.ensures.rise d place a (grouped_7 x) k e m

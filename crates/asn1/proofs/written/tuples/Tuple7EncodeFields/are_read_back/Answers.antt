@@ -1,9 +1,9 @@
 use Rattle.std.proofs.Common.{refl}
-use Rattle.asn1.specs.Tuples.{first_of_7}
-use Rattle.asn1.proofs.Rows.{row_read_back}
+use Rattle.asn1.specs.Tuples.{grouped_7}
+use Rattle.asn1.proofs.ReadingBack.{fields_back_seen}
 use Rattle.asn1.proofs.written.tuples.Tuple7EncodeFields.are_read_back.Goals as goal
 
 pub returns : goal.returns
 returns g c = λ x k.
-    row_read_back first_of_7 (λ s. ((s.0, s.1.0, s.1.1, s.1.2, s.1.3, s.1.4, s.1.5), refl)) _ x _ _ _ _
-    (c.are_read_back.ensures (first_of_7 x) k)
+    fields_back_seen grouped_7 (λ s. ((s.0.0, s.0.1, s.0.2, s.0.3, s.1.0, s.1.1, s.1.2), refl)) _ x _ _ _
+    (c.are_read_back.ensures (grouped_7 x) k)
