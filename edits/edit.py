@@ -53,7 +53,7 @@ class Crate:
         # Of `impl Oid<Vec<u8>>` the report has `Oid+Vec+u8`.
         plain = lambda it: it.replace("+", "").replace("Any", "").lower()
         # An impl whose name a type has already is called `ValidityPartsImpl`.
-        ends = (f"::{name}".lower(), f"::{'Impl::'.join(name.rsplit('::', 1))}".lower())
+        ends = tuple(plain(it) for it in (f"::{name}", f"::{'Impl::'.join(name.rsplit('::', 1))}"))
         found = [it for it in states if plain(it).endswith(ends) and "::fn::" not in it]
         found = [it for it in found if it.startswith(start)] or found
         return found[0] if len(found) == 1 else None

@@ -130,4 +130,5 @@ def impl_name(head):
                 text += {"&": "Ref", "mut": "Mut", "[": "Slice"}.get(word, "")
         return text
 
-    return written(head[at + 1 :]) + written(head[: max(at, 0)])
+    # (an `impl` for each type that meets a bound, `impl<E: Encoder> Values for E`, is `AnyValues`)
+    return (written(head[at + 1 :]) or "Any") + written(head[: max(at, 0)])

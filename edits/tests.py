@@ -127,5 +127,9 @@ class Functions(unittest.TestCase):
         text = "fn f(x: u8) -> u8 requires few { x < 3 } ensures same { result ≡ x } ensures { result < 3 } { x }"
         self.assertEqual(functions_of(text)["f"][0].clauses, ["same", ""])
 
+    def test_impls(self):
+        text = "trait B { fn f(); } impl<E: A> B for E { fn f() {} } impl<E: A> B for &E { fn f() {} }"
+        self.assertEqual([*functions_of(text)], ["B::f", "AnyB::f", "RefB::f"])
+
 
 unittest.main()
