@@ -113,7 +113,11 @@ impl<
         <((A, B, C, D), E)>::are_read_back(mode);
     }
 
-    ghost lawful = { λ x mode. ⟦<((A, B, C, D), E) as EncodeFields>⟧.lawful (grouped_5 x) mode };
+    ghost lawful = { λ x mode.
+        Joined_lawful (Then_lawful (Joined_lawful (Then_lawful (A.lawful x.0 mode)
+        (Then_lawful (B.lawful x.1 mode) (Then_lawful (C.lawful x.2 mode)
+        (Then_lawful (D.lawful x.3 mode) (NoValues_lawful mode))))))
+        (Then_lawful (E.lawful x.4 mode) (NoValues_lawful mode))) };
 }
 
 /// Six fields.
@@ -151,7 +155,11 @@ impl<
     }
 
     ghost lawful = { λ x mode.
-        ⟦<((A, B, C, D), (E, F)) as EncodeFields>⟧.lawful (grouped_6 x) mode };
+        Joined_lawful (Then_lawful (Joined_lawful (Then_lawful (A.lawful x.0 mode)
+        (Then_lawful (B.lawful x.1 mode) (Then_lawful (C.lawful x.2 mode)
+        (Then_lawful (D.lawful x.3 mode) (NoValues_lawful mode))))))
+        (Then_lawful (Joined_lawful (Then_lawful (E.lawful x.4 mode)
+        (Then_lawful (F.lawful x.5 mode) (NoValues_lawful mode)))) (NoValues_lawful mode))) };
 }
 
 /// Seven fields.
@@ -191,7 +199,12 @@ impl<
     }
 
     ghost lawful = { λ x mode.
-        ⟦<((A, B, C, D), (E, F, G)) as EncodeFields>⟧.lawful (grouped_7 x) mode };
+        Joined_lawful (Then_lawful (Joined_lawful (Then_lawful (A.lawful x.0 mode)
+        (Then_lawful (B.lawful x.1 mode) (Then_lawful (C.lawful x.2 mode)
+        (Then_lawful (D.lawful x.3 mode) (NoValues_lawful mode))))))
+        (Then_lawful (Joined_lawful (Then_lawful (E.lawful x.4 mode)
+        (Then_lawful (F.lawful x.5 mode) (Then_lawful (G.lawful x.6 mode) (NoValues_lawful mode)))))
+        (NoValues_lawful mode))) };
 }
 
 /// Eight fields.
@@ -232,7 +245,12 @@ impl<
     }
 
     ghost lawful = { λ x mode.
-        ⟦<((A, B, C, D), (E, F, G, H)) as EncodeFields>⟧.lawful (grouped_8 x) mode };
+        Joined_lawful (Then_lawful (Joined_lawful (Then_lawful (A.lawful x.0 mode)
+        (Then_lawful (B.lawful x.1 mode) (Then_lawful (C.lawful x.2 mode)
+        (Then_lawful (D.lawful x.3 mode) (NoValues_lawful mode))))))
+        (Then_lawful (Joined_lawful (Then_lawful (E.lawful x.4 mode)
+        (Then_lawful (F.lawful x.5 mode) (Then_lawful (G.lawful x.6 mode)
+        (Then_lawful (H.lawful x.7 mode) (NoValues_lawful mode)))))) (NoValues_lawful mode))) };
 }
 
 /// Nine fields.
@@ -274,7 +292,13 @@ impl<
     }
 
     ghost lawful = { λ x mode.
-        ⟦<((A, B, C, D), (E, F, G, H, I)) as EncodeFields>⟧.lawful (grouped_9 x) mode };
+        Joined_lawful (Then_lawful (Joined_lawful (Then_lawful (A.lawful x.0 mode)
+        (Then_lawful (B.lawful x.1 mode) (Then_lawful (C.lawful x.2 mode)
+        (Then_lawful (D.lawful x.3 mode) (NoValues_lawful mode))))))
+        (Then_lawful (Joined_lawful (Then_lawful (Joined_lawful (Then_lawful (E.lawful x.4 mode)
+        (Then_lawful (F.lawful x.5 mode) (Then_lawful (G.lawful x.6 mode)
+        (Then_lawful (H.lawful x.7 mode) (NoValues_lawful mode))))))
+        (Then_lawful (I.lawful x.8 mode) (NoValues_lawful mode)))) (NoValues_lawful mode))) };
 }
 
 /// Ten fields.
@@ -317,7 +341,15 @@ impl<
     }
 
     ghost lawful = { λ x mode.
-        ⟦<((A, B, C, D), (E, F, G, H, I, J)) as EncodeFields>⟧.lawful (grouped_10 x) mode };
+        Joined_lawful (Then_lawful (Joined_lawful (Then_lawful (A.lawful x.0 mode)
+        (Then_lawful (B.lawful x.1 mode) (Then_lawful (C.lawful x.2 mode)
+        (Then_lawful (D.lawful x.3 mode) (NoValues_lawful mode))))))
+        (Then_lawful (Joined_lawful (Then_lawful (Joined_lawful (Then_lawful (E.lawful x.4 mode)
+        (Then_lawful (F.lawful x.5 mode) (Then_lawful (G.lawful x.6 mode)
+        (Then_lawful (H.lawful x.7 mode) (NoValues_lawful mode))))))
+        (Then_lawful (Joined_lawful (Then_lawful (I.lawful x.8 mode)
+        (Then_lawful (J.lawful x.9 mode) (NoValues_lawful mode)))) (NoValues_lawful mode))))
+        (NoValues_lawful mode))) };
 }
 
 /// Eleven fields.
@@ -362,7 +394,15 @@ impl<
     }
 
     ghost lawful = { λ x mode.
-        ⟦<((A, B, C, D), (E, F, G, H, I, J, K)) as EncodeFields>⟧.lawful (grouped_11 x) mode };
+        Joined_lawful (Then_lawful (Joined_lawful (Then_lawful (A.lawful x.0 mode)
+        (Then_lawful (B.lawful x.1 mode) (Then_lawful (C.lawful x.2 mode)
+        (Then_lawful (D.lawful x.3 mode) (NoValues_lawful mode))))))
+        (Then_lawful (Joined_lawful (Then_lawful (Joined_lawful (Then_lawful (E.lawful x.4 mode)
+        (Then_lawful (F.lawful x.5 mode) (Then_lawful (G.lawful x.6 mode)
+        (Then_lawful (H.lawful x.7 mode) (NoValues_lawful mode))))))
+        (Then_lawful (Joined_lawful (Then_lawful (I.lawful x.8 mode)
+        (Then_lawful (J.lawful x.9 mode) (Then_lawful (K.lawful x.10 mode)
+        (NoValues_lawful mode))))) (NoValues_lawful mode)))) (NoValues_lawful mode))) };
 }
 
 /// Twelve fields.
@@ -408,5 +448,14 @@ impl<
     }
 
     ghost lawful = { λ x mode.
-        ⟦<((A, B, C, D), (E, F, G, H, I, J, K, L)) as EncodeFields>⟧.lawful (grouped_12 x) mode };
+        Joined_lawful (Then_lawful (Joined_lawful (Then_lawful (A.lawful x.0 mode)
+        (Then_lawful (B.lawful x.1 mode) (Then_lawful (C.lawful x.2 mode)
+        (Then_lawful (D.lawful x.3 mode) (NoValues_lawful mode))))))
+        (Then_lawful (Joined_lawful (Then_lawful (Joined_lawful (Then_lawful (E.lawful x.4 mode)
+        (Then_lawful (F.lawful x.5 mode) (Then_lawful (G.lawful x.6 mode)
+        (Then_lawful (H.lawful x.7 mode) (NoValues_lawful mode))))))
+        (Then_lawful (Joined_lawful (Then_lawful (I.lawful x.8 mode)
+        (Then_lawful (J.lawful x.9 mode) (Then_lawful (K.lawful x.10 mode)
+        (Then_lawful (L.lawful x.11 mode) (NoValues_lawful mode)))))) (NoValues_lawful mode))))
+        (NoValues_lawful mode))) };
 }
