@@ -11,7 +11,7 @@ use Rattle.bcder.specs.calls.Content.{Reading, Octets, tagged, Moves, EndsBefore
 use Rattle.bcder.specs.calls.Calls.{Answered, AnswersDone, TakesValue, HasForm, RefusesFront, RefusesContent, by_closure, unfinished, RefusesEnd, left_failed}
 use Rattle.bcder.specs.calls.Calls.{source_failed, left_open}
 use Rattle.bcder.specs.calls.Takes.{TakesNext, RefusesTake, by_header, by_form, by_content}
-use Rattle.bcder.specs.calls.Valued.{HasNoTree, WantsMemoryFor, HoldsValues, HoldsTree, HasTagged, ReadsTree, RefusesToRead, ReadsContent, ReadsAny}
+use Rattle.bcder.specs.calls.Valued.{HoldsValues, HoldsTree, HasTagged, ReadsTree, RefusesToRead, ReadsContent, ReadsAny, RefusesTree}
 use Rattle.bcder.specs.calls.Valued as valued
 use Rattle.bcder.specs.laws.Moved.{untouched_is_moved}
 use Rattle.bcder.proofs.Lemmas.{IsWithinOwed, as_many_are_no_fewer, done_is_at_its_end, grew_in_between}
@@ -226,7 +226,7 @@ module _ {C T X : Type 0} (view : C → Reading) (post : Tag → MutBor C → Re
     not_primitive f (constructed t ts) v rest x h k = primitive_in_front tag c f.after f.front f.is t ts v rest h
 
     refused_form : (e : DecodeError X) → HasForm false (tagged tag) c → IsRefusal e
-        → Refuses cause_of (tagged tag) (HasNoTree tag (Inside c.mode)) (WantsMemoryFor tag (Inside c.mode)) c e d
+        → RefusesTree tag (Inside c.mode) c e d
     refused_form e f a =
         refusals.Refuses.nothing (record { usable = f.usable; value = not_primitive f; absent = λ rest. header_is_there tag c f.after rest f.usable f.front })
         (refused_behind_header (tagged tag) c (cause_of e) a f.after f.front)

@@ -14,7 +14,8 @@ use Rattle.bcder.specs.calls.Cause.{Cause, of_source, IsOfContent}
 use Rattle.bcder.specs.x690.Encoding.{IsHeader, IsEncoding, Header}
 use Rattle.bcder.specs.calls.Stream.{Stream, Grew}
 use Rattle.bcder.specs.calls.Content.{Reading, ContentForm, Octets, DefiniteValues, IndefiniteValues, UnboundedValues, label, Moves}
-use Rattle.bcder.specs.calls.Content.{Advances, Asked, HasHeader, IsDone, EndsAt, NotAtEnd, NothingThere, NamesViolation}
+use Rattle.bcder.specs.calls.Content.{Advances, Asked, HasHeader, IsDone, EndsBefore, NotAtEnd, NothingThere}
+use Rattle.bcder.specs.calls.Refusals.{Refuses}
 
 -- ---- what a closure gets
 
@@ -104,7 +105,7 @@ module _ {C R : Type 0} (view : C → Reading) where
     pub finishes : Moves left j
     pub marked : j.marked ≡ left.marked
     pub no_fault : j.stream.faults ≡ left.stream.faults
-    pub ends : EndsAt left j
+    pub ends : EndsBefore left j.stream.rest
     pub done : IsDone j
 
 -- why the content that a closure left is refused with e: it failed, it is not at its end, or the source failed;
@@ -157,13 +158,10 @@ pub record RefusesFront {C T E : Type 0} (why : E → Cause ContentError) (view 
   pub marked : d.marked ≡ (c.marked || left.marked)
   pub refuses : RefusesContent why view post front.tag handed e left
 
--- why no value was taken from c, with error e; `why` gives its cause
-pub data RefusesValue {C T E : Type 0} (why : E → Cause ContentError) (view : C → Reading)
-    (post : Tag → MutBor C → Result T E → MutBor C → Type 0) (asked : Asked) (c : Reading) (e : E) (d : Reading) : Type 0 where
-  failed : c.state ≡ Failed → IsOfContent (why e) → RefusesValue why view post asked c e d
-  source : why e ≡ of_source → Grew c.stream.faults d.stream.faults → RefusesValue why view post asked c e d
-  nothing : NothingThere asked c → NamesViolation (why e) c → RefusesValue why view post asked c e d
-  content : RefusesFront why view post asked c e d → RefusesValue why view post asked c e d
+-- why no value was taken from c, with error e: none comes next, or its content was refused; `why` gives the cause of e
+abbrev pub RefusesValue : {C T E : Type 0} → (E → Cause ContentError) → (C → Reading)
+    → (Tag → MutBor C → Result T E → MutBor C → Type 0) → Asked → Reading → E → Reading → Type 0
+RefusesValue why view post asked c e d = Refuses why asked (NothingThere asked) (RefusesFront why view post asked c e d) c e d
 
 -- an asked header comes next, and has the form f
 pub record HasForm (f : Bool) (asked : Asked) (c : Reading) : Type 0 where

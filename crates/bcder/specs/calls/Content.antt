@@ -181,10 +181,6 @@ pub data IsAtEnd (c : Reading) (after : List ℕ) : Type 0 where
 abbrev pub EndsBefore : Reading → List ℕ → Type 0
 EndsBefore c after = (c.state ≡ Ended) ⊎ (c.state ≡ Open) × IsAtEnd c after
 
--- content c was at its end, and d is what is left of it
-abbrev pub EndsAt : Reading → Reading → Type 0
-EndsAt c d = EndsBefore c d.stream.rest
-
 -- content is not at its end
 pub record NotAtEnd (c : Reading) : Type 0 where
   pub none : (after : List ℕ) → EndsBefore c after → ⊥
@@ -207,7 +203,7 @@ IsLeft t c d = (d.state ≡ c.state) × (d.stream.rest ≡ c.stream.rest) ⊎ (t
 
 -- no asked value comes next, and content is usable
 abbrev pub IsMissing : Asked → Reading → Reading → Type 0
-IsMissing any c d = EndsAt c d × IsDone d
+IsMissing any c d = EndsBefore c d.stream.rest × IsDone d
 IsMissing (tagged t) c d = IsAbsent (tagged t) c d.stream.rest × IsLeft t c d
 
 -- neither an asked value comes next, nor is there a reason to return that there is none
