@@ -131,14 +131,14 @@ module _ (n : GName) (c d e : Reading) (s : d.stream ≡ e.stream) (o : d.owed �
   pub moves_behind : Moves (named n c) e
   moves_behind = subst (λ z. Moves (named n c) z) is_named (moves_named n c d mv)
 
-  pub passed_behind : {T E : Type 0} (why : E → Cause ContentError) (r : Result (Option T) E) 
+  pub passed_behind : {T E : Type 0} (why : E → Cause ContentError) (r : Result (Option T) E)
       → NextBy any (λ i _ j. PassesValue i j) (Refuses why any HasNoNext ⊥) c r d
       → NextBy any (λ i _ j. PassesValue i j) (Refuses why any HasNoNext ⊥) (named n c) r e
   passed_behind why r p =
       subst (λ z. NextBy any (λ i _ j. PassesValue i j) (Refuses why any HasNoNext ⊥) (named n c) r z) is_named
       (passed_named n why c d (Refuses why any HasNoNext ⊥) (refused_named n why c d (λ x. x)) r p)
 
-  pub skipped_behind : {T E : Type 0} (why : E → Cause ContentError) (r : Result (Option T) E) 
+  pub skipped_behind : {T E : Type 0} (why : E → Cause ContentError) (r : Result (Option T) E)
       → NextBy any (λ i _ j. PassesValue i j) (RefusesOne why) c r d → NextBy any (λ i _ j. PassesValue i j) (RefusesOne why) (named n c) r e
   skipped_behind why r p = subst (λ z. NextBy any (λ i _ j. PassesValue i j) (RefusesOne why) (named n c) r z) is_named
       (passed_named n why c d (RefusesOne why) (one_named n why c d) r p)

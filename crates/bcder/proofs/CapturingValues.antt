@@ -21,7 +21,7 @@ use Rattle.bcder.specs.calls.Refusals.{Refuses, failed, source, nothing, otherwi
 use Rattle.bcder.specs.calls.CapturingValues.{CapturesBy, PassesBy, LeadDeep, BeginsDeep}
 use Rattle.bcder.specs.calls.CapturingValues.{HasValueOrDeep, of_value, of_depth, HasValuesOrDeep, MetDeep, CapturesValue}
 use Rattle.bcder.specs.calls.CapturingValues.{CapturesNext, CapturesValues, HasOthers, PassesToEnd}
-use Rattle.bcder.specs.calls.Content.{NothingThere, Reading, ContentForm, octets, values, Octets, IndefiniteValues, label, Closes, Moves, Whole, Falls}
+use Rattle.bcder.specs.calls.Content.{NothingThere, Reading, ContentForm, values, Octets, IndefiniteValues, label, Closes, Moves, Whole, Falls}
 use Rattle.bcder.specs.calls.Content.{HasMarker, EndsBefore, NotAtEnd, IsDone, IsUsedUp, any}
 use Rattle.bcder.specs.calls.Calls.{Answered}
 use Rattle.bcder.specs.calls.Decoding.{by_closure, left_failed}
@@ -334,7 +334,7 @@ module _ {C X : Type 0} (view : C → Reading) (post : MutBor C → Result (Unit
   of_kind e = m.kind ∙ e
 
   closes_before : (g : ContentForm) → c.kind ≡ g → c.state ≡ Open → ClosesBefore g c.mode c.owed k.octets (h.holds.close ++ d.stream.rest)
-  closes_before octets e o = absurd (form e)
+  closes_before Octets e o = absurd (form e)
   closes_before (values kind.Definite) e o =
       let u = used_up (values kind.Definite) (of_kind e) (λ z. cc) o e in
       let w : Falls c.owed (length (k.octets ++ h.holds.close)) (Some 0) = subst (λ z. Falls c.owed (length (k.octets ++ h.holds.close)) z) u.1 fell in
@@ -409,7 +409,7 @@ none_fell (Some m) (Some n) k e f = (let z : m ≡ 0 = some_of m 0 e in (omega a
 
 -- of octets that are used up none is passed, and they stay so
 none_passed : (f : ContentForm) (o p : Option ℕ) (w v x : List ℕ) → IsUsedUp f o w → w ≡ v ++ x → Falls o (length v) p → (length v ≡ 0) × IsUsedUp f p x
-none_passed octets o p w v x u e f = none_fell o p (length v) u f
+none_passed Octets o p w v x u e f = none_fell o p (length v) u f
 none_passed (values kind.Definite) o p w v x u e f = none_fell o p (length v) u f
 none_passed (values kind.Indefinite) o p w v x u e f = absurd u
 none_passed (values kind.Unbounded) o p w v x u e f = (let z = both_empty v x (sym e ∙ u) in (ap length z, ap (λ y. y ++ x) (sym z) ∙ sym e ∙ u))

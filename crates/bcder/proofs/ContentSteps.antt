@@ -15,8 +15,8 @@ use Rattle.bcder.specs.declared.decode.stop.Stop.TheVariants as stop
 use Rattle.bcder.specs.x690.Identifier.{Tag, AreOctets}
 use Rattle.bcder.specs.x690.Encoding.{Header}
 use Rattle.bcder.specs.calls.Stream.{Stream, IsSound, Grew, past, limited}
-use Rattle.bcder.specs.calls.Content.{NothingThere, Reading, ContentForm, octets, Octets, any, Enters, Moves, Advances, FitsOwed, IsDone}
-use Rattle.bcder.specs.calls.Calls.{IsFormOf, Answered, AnswersDone, RefusesContent, by_closure, RanOver, TakesContent, RefusesValue, popped}
+use Rattle.bcder.specs.calls.Content.{NothingThere, Reading, ContentForm, Octets, any, Enters, Moves, Advances, FitsOwed, IsDone}
+use Rattle.bcder.specs.calls.Calls.{IsFormOf, Answered, AnswersDone, RefusesContent, by_closure, RanOver, TakesContent, RefusesFront, popped}
 use Rattle.bcder.specs.steps.WalkSteps.{WalksBy, itself, walked}
 use Rattle.bcder.specs.laws.Limits.{limited_sound}
 use Rattle.bcder.specs.laws.Moved.{untouched_is_moved, moved_keeps_kind}
@@ -82,7 +82,8 @@ module _ {T E : Type 0} (why : E → Cause ContentError) where
 
 -- ---- why a step was refused
 
-pub step_refused : {T E : Type 0} (why : E → Cause ContentError) (c d : Reading) (e : E) → Within c → RefusesValue why itself (walked {T = T} why) any c e d
+pub step_refused : {T E : Type 0} (why : E → Cause ContentError) (c d : Reading) (e : E) → Within c
+    → Refuses why any (NothingThere any) (RefusesFront why itself (walked {T = T} why) any c e d) c e d
     → Refuses why any HasNoNext ⊥ c e d
 step_refused {T} {E} why c d e w h = (let r : Result T E = Err e in refuses_walk why itself (walked {T = T} why) (λ t p r q x. x) c d r w h)
 
@@ -105,7 +106,7 @@ stop_reason A B stop.NoMemory none = absurd none
 
 module _ (m : Mode) (name : GName) where
   pub inside : Stream → Option ℕ → Reading
-  inside s o = record { stream = limited o s; owed = o; kind = octets; state = Open; mode = m; marked = false; name = name }
+  inside s o = record { stream = limited o s; owed = o; kind = Octets; state = Open; mode = m; marked = false; name = name }
 
   skipped_advances : (n : ℕ) (s s' : Stream) → n ≤ length s.rest → s'.rest ≡ drop n s.rest → s'.faults ≡ s.faults → s'.kept ≡ s.kept
       → Advances (inside s (Some n)) (inside s' (Some 0)) (take n s.rest)

@@ -218,8 +218,13 @@ module _ {C T X : Type 0} (view : C → Reading) (post : Tag → MutBor C → Re
         refusals.Refuses.source s (grew_between _ _ _ _ (no_fewer _ _ f.faults_handed) g f.faults_left)
     refused_octets k (readers.RefusesReading.few s o n) =
         refusals.Refuses.nothing (is_broken (few_octets k s)) (behind_header (tagged tag) c (cause_of e) o f.after f.front)
-    refused_octets k (readers.RefusesReading.refused a r n) = refusals.Refuses.otherwise (f.handed.stream.rest, _, _,
-        handed_value tag c f.handed w f.after f.front f.hands k f.usable a _ (handed_before tag c f.handed w f.after f.front f.hands k a), r)
+    refused_octets k (readers.RefusesReading.refused a r n) = refusals.Refuses.otherwise (
+      f.handed.stream.rest,
+      _,
+      _,
+      handed_value tag c f.handed w f.after f.front f.hands k f.usable a _ (handed_before tag c f.handed w f.after f.front f.hands k a),
+      r,
+    )
 
     refused_end : (l : Reading) → l.kind ≡ Octets → l.state ≡ Open → l.owed ≡ Some 0 → l.stream.faults ≡ f.handed.stream.faults → RefusesEnd cause_of l e f.left
         → RefusesAs tag (MeansIn c.mode) (RefusesIn c.mode) c e d

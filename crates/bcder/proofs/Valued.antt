@@ -19,7 +19,7 @@ use Rattle.bcder.specs.x690.OctetString.{AreSegmentsIn}
 use Rattle.bcder.specs.calls.Readers.{HasAll}
 use Rattle.bcder.specs.x690.Encoding.{may_have, IsHeader, IsDefinite, IsFramed, IsEncoding, AreEncodings}
 use Rattle.bcder.specs.calls.Cause.{cause_of}
-use Rattle.bcder.specs.calls.Content.{NothingThere, Reading, ContentForm, octets, values, Octets, DefiniteValues, IndefiniteValues}
+use Rattle.bcder.specs.calls.Content.{NothingThere, Reading, ContentForm, values, Octets, DefiniteValues, IndefiniteValues}
 use Rattle.bcder.specs.calls.Content.{tagged, label, HasHeader, HasMarker, IsDone}
 use Rattle.bcder.specs.calls.Calls.{Hands, IsFormOf, ContentOf, Answered, TakesValue, RefusesFront, RefusesContent}
 use Rattle.bcder.specs.calls.Calls.{by_closure, unfinished, RefusesEnd, left_failed, source_failed, left_open}
@@ -47,7 +47,7 @@ some_is m n e = cc
 
 same_values : (f : ContentForm) (mode : Mode) (o : Option ℕ) (ts us : Trees) (a b x y : List ℕ) → AreEncodings mode ts a → AreEncodings mode us b
     → ClosesBefore f mode o a x → ClosesBefore f mode o b y → a ++ x ≡ b ++ y → ts ≡ us
-same_values octets mode o ts us a b x y h k c d e = absurd c
+same_values Octets mode o ts us a b x y h k c d e = absurd c
 same_values (values kind.Definite) mode o ts us a b x y h k c d e =
     let s : a ≡ b = same_fronts a b x y e (some_is _ _ (sym c ∙ d)) in
     one_list mode ts us b (subst (AreEncodings mode ts) s h) k

@@ -8,8 +8,8 @@ use Rattle.bcder.specs.x690.Grammar.{IsOnly}
 use Rattle.bcder.specs.calls.Stream.{Grew}
 use Rattle.bcder.specs.declared.decode.error.ContentError.{ContentError}
 use Rattle.bcder.specs.calls.Cause.{Cause, of_source, IsOfContent}
-use Rattle.bcder.specs.calls.Content.{Reading, any, label}
-use Rattle.bcder.specs.calls.Calls.{Answered, TakesValue, RefusesContent, by_closure, unfinished, RefusesFront, RefusesValue}
+use Rattle.bcder.specs.calls.Content.{Reading, any, label, NothingThere}
+use Rattle.bcder.specs.calls.Calls.{Answered, TakesValue, RefusesContent, by_closure, unfinished, RefusesFront}
 use Rattle.bcder.specs.calls.Walking.{HasNoNext, PassesValue}
 use Rattle.bcder.specs.steps.WalkSteps.{NoValue, WalksBy}
 use Rattle.bcder.specs.laws.Complete.{only_at_front}
@@ -37,7 +37,8 @@ module _ {C T E : Type 0} (why : E → Cause ContentError) (view : C → Reading
       let w = walks_by f.front.tag f.handed l (Ok y) x in
       inl (refused_left why e c d f.handed f.left f.after f.front f.hands (no_fewer _ _ f.faults_handed) f.faults_left l w.done w.moves z)
 
-  walk_refused : (c d : Reading) (e : E) → Within c → RefusesValue why view post any c e d → Refuses why any HasNoNext ⊥ c e d
+  walk_refused : (c d : Reading) (e : E) → Within c
+      → Refuses why any (NothingThere any) (RefusesFront why view post any c e d) c e d → Refuses why any HasNoNext ⊥ c e d
   walk_refused c d e w (refusals.Refuses.failed s a) = refusals.Refuses.failed s a
   walk_refused c d e w (refusals.Refuses.source k s) = refusals.Refuses.source k s
   walk_refused c d e w (refusals.Refuses.nothing n a) =
@@ -48,7 +49,7 @@ module _ {C T E : Type 0} (why : E → Cause ContentError) (view : C → Reading
         (behind_header any c (why e) n.1 f.after f.front)
   ]
 
-  pub refuses_walk : {U : Type 0} (c d : Reading) (r : Result U E) → Within c → IfErr r (λ e. RefusesValue why view post any c e d)
+  pub refuses_walk : {U : Type 0} (c d : Reading) (r : Result U E) → Within c → IfErr r (λ e. Refuses why any (NothingThere any) (RefusesFront why view post any c e d) c e d)
       → IfErr r (λ e. Refuses why any HasNoNext ⊥ c e d)
   refuses_walk c d (Ok x) w h = tt
   refuses_walk c d (Err e) w h = walk_refused c d e w h

@@ -14,7 +14,7 @@ use Rattle.bcder.specs.x690.Encoding.{IsEncoding, AreEncodings}
 use Rattle.bcder.specs.calls.Stream.{Grew}
 use Rattle.bcder.specs.declared.decode.error.ContentError.{ContentError}
 use Rattle.bcder.specs.calls.Cause.{Cause, of_source, IsOfContent}
-use Rattle.bcder.specs.calls.Content.{Reading, ContentForm, octets, values, Octets, DefiniteValues, IndefiniteValues, any, HasHeader}
+use Rattle.bcder.specs.calls.Content.{Reading, ContentForm, values, Octets, DefiniteValues, IndefiniteValues, any, HasHeader}
 use Rattle.bcder.specs.calls.Content.{HasMarker, Moves, MovesBy, Falls, FitsOwed, IsDone, IsUsedUp, IsAtEnd, of_octets, of_definite}
 use Rattle.bcder.specs.calls.Content.{of_indefinite, of_unbounded, EndsBefore, NotAtEnd, NothingThere}
 use Rattle.bcder.specs.calls.Calls.{Hands, IsFormOf, ContentOf, RefusesEnd, left_failed, source_failed, left_open}
@@ -85,7 +85,7 @@ first_of m (t ∷ₜ ts) w h = inr (record { tree = t; trees = ts; front = h.0; 
 -- where no values are left, content is at its end
 ends_before : (c : Reading) (f : ContentForm) (all after : List ℕ) → c.kind ≡ f → c.state ≡ Open → ClosesBefore f c.mode c.owed all after → all ≡ []
     → c.stream.rest ≡ all ++ after → (x : List ℕ) × EndsBefore c x
-ends_before c octets all after q s h e r = absurd h
+ends_before c Octets all after q s h e r = absurd h
 ends_before c (values kind.Definite) all after q s h e r = (after, inr (s, of_definite q (h ∙ ap (λ x. Some (length x)) e)))
 ends_before c (values kind.Indefinite) all after q s h e r =
     (h.0, inr (s, of_indefinite q (subst (λ z. HasMarker c.mode z h.0) (sym (r ∙ ap (λ x. x ++ after) e)) h.1)))
@@ -115,7 +115,7 @@ falls_to (Some o) (Some p) a b n f e g = ap Some (let z : o ≡ b = (let y : ◌
 module _ (j k : Reading) (w : Within j) (one : PassesValue j k) (m : MovesBy j k) (mode : k.mode ≡ j.mode) where
   closes_on : (f : ContentForm) (all others after : List ℕ) → ClosesBefore f j.mode j.owed all after → all ≡ one.value ++ others
       → ClosesBefore f j.mode k.owed others after
-  closes_on octets all others after c e = c
+  closes_on Octets all others after c e = c
   closes_on (values kind.Definite) all others after c e =
       let l : length m.passed ≡ length one.value = passed_length m.passed one.value k.stream.rest (sym m.rest ∙ one.has.rest) in
       falls_to j.owed k.owed (length m.passed) (length all) (length others) m.owed c (omega (arith, l, ap length e, length-append one.value others))
@@ -153,7 +153,7 @@ module _ (j k : Reading) (w : Within j) (one : PassesValue j k) (m : MovesBy j k
   falls_from (Some o) (Some p) a b n f e q = ap Some (let z : p ≡ n = (let y : ◌≡◌ {A = Option ℕ} (Some p) (Some n) = e in cc) in omega arith)
 
   closes_back : (f : ContentForm) (others after : List ℕ) → ClosesBefore f j.mode k.owed others after → ClosesBefore f j.mode j.owed (one.value ++ others) after
-  closes_back octets others after c = c
+  closes_back Octets others after c = c
   closes_back (values kind.Definite) others after c =
       let l : length m.passed ≡ length one.value = passed_length m.passed one.value k.stream.rest (sym m.rest ∙ one.has.rest) in
       falls_from j.owed k.owed (length m.passed) (length (one.value ++ others)) (length others) m.owed c (omega (arith, l, length-append one.value others))
@@ -339,7 +339,7 @@ module _ (c i : Reading) (after : List ℕ) (f : HasHeader any c after) (g : Han
 -- content that is done is at its end
 pub done_here : (j : Reading) (f : ContentForm) → j.kind ≡ f → IsDone j → EndsBefore j j.stream.rest
 done_here j f e (inl s) = inl s
-done_here j octets e (inr s) = inr (s.0, of_octets e (subst (λ x. IsUsedUp x j.owed j.stream.rest) e s.1))
+done_here j Octets e (inr s) = inr (s.0, of_octets e (subst (λ x. IsUsedUp x j.owed j.stream.rest) e s.1))
 done_here j (values kind.Definite) e (inr s) = inr (s.0, of_definite e (subst (λ x. IsUsedUp x j.owed j.stream.rest) e s.1))
 done_here j (values kind.Indefinite) e (inr s) = absurd (subst (λ x. IsUsedUp x j.owed j.stream.rest) e s.1)
 done_here j (values kind.Unbounded) e (inr s) = inr (s.0, of_unbounded e (subst (λ x. IsUsedUp x j.owed j.stream.rest) e s.1))

@@ -14,8 +14,7 @@ use Rattle.bcder.specs.calls.Cause.{Cause, of_source, IsOfContent}
 use Rattle.bcder.specs.x690.Encoding.{IsHeader, IsEncoding, Header}
 use Rattle.bcder.specs.calls.Stream.{Stream, Grew}
 use Rattle.bcder.specs.calls.Content.{Reading, ContentForm, Octets, DefiniteValues, IndefiniteValues, UnboundedValues, label, Moves}
-use Rattle.bcder.specs.calls.Content.{Advances, Asked, HasHeader, IsDone, EndsBefore, NotAtEnd, NothingThere}
-use Rattle.bcder.specs.calls.Refusals.{Refuses}
+use Rattle.bcder.specs.calls.Content.{Advances, Asked, HasHeader, IsDone, EndsBefore, NotAtEnd}
 
 -- ---- what a closure gets
 
@@ -61,25 +60,15 @@ pub record IsInside (asked : Asked) (c : Reading) (t : Tag) (i : Reading) : Type
   pub bounded : i.kind ≢ UnboundedValues
   pub shorter : length i.stream.rest + 2 ≤ length c.stream.rest
 
--- ---- what is required of a closure of a tag and content, and of one of content alone
-
-module _ {C : Type 0} (view : C → Reading) (Handed : Tag → Reading → Type 0) where
-  -- the closure may be called on any tag and content that it can get
-  abbrev pub MayBeCalled : (Tag → MutBor C → Type 0) → Type 0
-  MayBeCalled pre = (t : Tag) (p : MutBor C) → Handed t (view p.now) → pre t p
+-- ---- what is required of a closure of content
 
 module _ {C : Type 0} (view : C → Reading) (Handed : Reading → Type 0) where
-  -- the closure may be called on any content that it can get, without a tag
+  -- the closure may be called on any content that it can get
   abbrev pub MayBeCalledOn : (MutBor C → Type 0) → Type 0
   MayBeCalledOn pre = (p : MutBor C) → Handed (view p.now) → pre p
 
-module _ {C R : Type 0} (view : C → Reading) (Handed : Tag → Reading → Type 0) where
-  -- whatever the closure leaves is reached by lawful steps from the content that it got
-  abbrev pub IsLawfulAtAny : (Tag → MutBor C → R → MutBor C → Type 0) → Type 0
-  IsLawfulAtAny post = (t : Tag) (p : MutBor C) (r : R) (q : MutBor C) → Handed t (view p.now) → post t p r q
-      → Moves (view p.now) (view q.now)
-
 module _ {C R : Type 0} (view : C → Reading) (Handed : Reading → Type 0) where
+  -- whatever the closure leaves is reached by lawful steps from the content that it got
   abbrev pub IsLawfulOn : (MutBor C → R → MutBor C → Type 0) → Type 0
   IsLawfulOn post = (p : MutBor C) (r : R) (q : MutBor C) → Handed (view p.now) → post p r q → Moves (view p.now) (view q.now)
 
@@ -157,11 +146,6 @@ pub record RefusesFront {C T E : Type 0} (why : E → Cause ContentError) (view 
   pub faults_left : left.stream.faults ≡ d.stream.faults
   pub marked : d.marked ≡ (c.marked || left.marked)
   pub refuses : RefusesContent why view post front.tag handed e left
-
--- why no value was taken from c, with error e: none comes next, or its content was refused; `why` gives the cause of e
-abbrev pub RefusesValue : {C T E : Type 0} → (E → Cause ContentError) → (C → Reading)
-    → (Tag → MutBor C → Result T E → MutBor C → Type 0) → Asked → Reading → E → Reading → Type 0
-RefusesValue why view post asked c e d = Refuses why asked (NothingThere asked) (RefusesFront why view post asked c e d) c e d
 
 -- an asked header comes next, and has the form f
 pub record HasForm (f : Bool) (asked : Asked) (c : Reading) : Type 0 where

@@ -23,11 +23,8 @@ use Rattle.bcder.specs.calls.Violations.{violation_text, ViolatesFront}
 
 -- the form of content: octets, or values whose end is known in one of three ways
 pub data ContentForm : Type 0 where
-  octets : ContentForm
+  Octets : ContentForm
   values : Kind → ContentForm
-
-abbrev pub Octets : ContentForm
-Octets = octets
 
 abbrev pub DefiniteValues : ContentForm
 DefiniteValues = values kind.Definite
@@ -161,7 +158,7 @@ pub record HasOther (t : Tag) (w : List ℕ) : Type 0 where
 
 -- the octets of open content are used up: none is owed, or, without a limit, none is left
 abbrev pub IsUsedUp : ContentForm → Option ℕ → List ℕ → Type 0
-IsUsedUp octets o rest = o ≡ Some 0
+IsUsedUp Octets o rest = o ≡ Some 0
 IsUsedUp (values kind.Definite) o rest = o ≡ Some 0
 IsUsedUp (values kind.Indefinite) o rest = ⊥
 IsUsedUp (values kind.Unbounded) o rest = rest ≡ []

@@ -8,8 +8,8 @@ use Rattle.bcder.specs.calls.Content.{Reading, Asked, NamesFront}
 
 -- why e was returned for content c, which is d then: an earlier value was refused, the source failed, c has none of what is
 -- asked for, or another reason that the call has; `why` gives the cause of e
-pub data Refuses {E : Type 0} (why : E → Cause ContentError) (asked : Asked) (HasNone : Reading → Type 0) (Other : Type 0) (c : Reading) (e : E)
-    (d : Reading) : Type 0 where
+pub data Refuses {E : Type 0} (why : E → Cause ContentError) (asked : Asked) (HasNone : Reading → Type 0) (Other : Type 0)
+    (c : Reading) (e : E) (d : Reading) : Type 0 where
   failed : c.state ≡ Failed → IsOfContent (why e) → Refuses why asked HasNone Other c e d
   source : why e ≡ of_source → Grew c.stream.faults d.stream.faults → Refuses why asked HasNone Other c e d
   nothing : HasNone c → NamesFront asked (why e) c → Refuses why asked HasNone Other c e d

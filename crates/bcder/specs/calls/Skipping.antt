@@ -51,10 +51,6 @@ Steps F E = F → Tag → Bool → ℕ → Result (Unit {0}) E → F → Type 0
 abbrev pub Called : {F E : Type 0} → Steps F E → F → List Heading → F → Type 0
 Called step f calls g = FoldsTo (λ p h q. step p h.tag h.constructed h.depth (Ok tt) q) f calls g
 
--- f, as the calls before left it, refused a heading with x
-abbrev pub Refused : {F E : Type 0} → Steps F E → F → Heading → E → F → Type 0
-Refused step f h x g = step f h.tag h.constructed h.depth (Err x) g
-
 -- calls were made over content c, which is d then
 pub record WereCalls (c : Reading) (calls : List Heading) (d : Reading) : Type 0 where
   -- the calls are a prefix of the headings of a value, and of those of the next value, if there is one
@@ -82,7 +78,7 @@ pub data RefusesSkip {F X : Type 0} (why : X → Cause ContentError) (step : Ste
   by_content : (calls : List Heading) → Called step f calls g → WereCalls c calls d → Refuses why any HasNoNext ⊥ c e d
       → RefusesSkip why step c f e g d
   -- the closure refused a heading
-  by_closure : (calls : List Heading) (h : Heading) (q : F) (x : ContentError) → Called step f calls q → Refused step q h x g
+  by_closure : (calls : List Heading) (h : Heading) (q : F) (x : ContentError) → Called step f calls q → step q h.tag h.constructed h.depth (Err x) g
       → WereCalls c (calls ++ h ∷ []) d → why e ≡ of_content x → RefusesSkip why step c f e g d
   -- memory ran out for a constructed value at a depth of four or more
   by_memory : (calls : List Heading) (h : Heading) → Called step f (calls ++ h ∷ []) g → WereCalls c (calls ++ h ∷ []) d

@@ -12,7 +12,7 @@ use Rattle.bcder.specs.calls.Cause.{cause_of, IsRefusal, NamesTag}
 use Rattle.bcder.specs.x690.Identifier.{Tag}
 use Rattle.bcder.specs.calls.Stream.{Stream}
 use Rattle.bcder.specs.calls.Content.{Reading, Asked, any, tagged, IsMissing, NothingThere}
-use Rattle.bcder.specs.calls.Calls.{IsInside, MayBeCalled, IsLawfulAtAny, TakesValue, RefusesFront, HasForm}
+use Rattle.bcder.specs.calls.Calls.{IsInside, MayBeCalledOn, IsLawfulOn, TakesValue, RefusesFront, HasForm}
 use Rattle.bcder.specs.calls.Refusals.{Refuses}
 use Rattle.bcder.specs.calls.Views.{of_constructed, of_primitive, of_content, before, after}
 
@@ -84,27 +84,27 @@ module _ {C T X : Type 0} (view : C → Reading) (post : Tag → MutBor C → Re
 module _ {S : Type 0} (stream : S → Stream) where
   -- the closure may be called on the contents octets that it can get, and moves them
   abbrev pub CallableOnOctets : MutBor (Constructed S) → Asked → (Tag → MutBor (Primitive S) → Type 0) → Type 0
-  CallableOnOctets c asked pre = MayBeCalled (of_primitive stream) (IsInside asked (of_constructed stream c.now)) pre
+  CallableOnOctets c asked pre = (t : Tag) → MayBeCalledOn (of_primitive stream) (IsInside asked (of_constructed stream c.now) t) (pre t)
 
   abbrev pub LawfulOnOctets : {R : Type 0} → MutBor (Constructed S) → Asked
       → (Tag → MutBor (Primitive S) → R → MutBor (Primitive S) → Type 0) → Type 0
-  LawfulOnOctets c asked post = IsLawfulAtAny (of_primitive stream) (IsInside asked (of_constructed stream c.now)) post
+  LawfulOnOctets c asked post = (t : Tag) → IsLawfulOn (of_primitive stream) (IsInside asked (of_constructed stream c.now) t) (post t)
 
   -- the closure may be called on the values inside a constructed value that it can get, and moves them
   abbrev pub CallableOnValues : MutBor (Constructed S) → Asked → (Tag → MutBor (Constructed S) → Type 0) → Type 0
-  CallableOnValues c asked pre = MayBeCalled (of_constructed stream) (IsInside asked (of_constructed stream c.now)) pre
+  CallableOnValues c asked pre = (t : Tag) → MayBeCalledOn (of_constructed stream) (IsInside asked (of_constructed stream c.now) t) (pre t)
 
   abbrev pub LawfulOnValues : {R : Type 0} → MutBor (Constructed S) → Asked
       → (Tag → MutBor (Constructed S) → R → MutBor (Constructed S) → Type 0) → Type 0
-  LawfulOnValues c asked post = IsLawfulAtAny (of_constructed stream) (IsInside asked (of_constructed stream c.now)) post
+  LawfulOnValues c asked post = (t : Tag) → IsLawfulOn (of_constructed stream) (IsInside asked (of_constructed stream c.now) t) (post t)
 
   -- the closure may be called on the content of either form that it can get, and moves it
   abbrev pub CallableOnContent : MutBor (Constructed S) → Asked → (Tag → MutBor (Content S) → Type 0) → Type 0
-  CallableOnContent c asked pre = MayBeCalled (of_content stream) (IsInside asked (of_constructed stream c.now)) pre
+  CallableOnContent c asked pre = (t : Tag) → MayBeCalledOn (of_content stream) (IsInside asked (of_constructed stream c.now) t) (pre t)
 
   abbrev pub LawfulOnContent : {R : Type 0} → MutBor (Constructed S) → Asked
       → (Tag → MutBor (Content S) → R → MutBor (Content S) → Type 0) → Type 0
-  LawfulOnContent c asked post = IsLawfulAtAny (of_content stream) (IsInside asked (of_constructed stream c.now)) post
+  LawfulOnContent c asked post = (t : Tag) → IsLawfulOn (of_content stream) (IsInside asked (of_constructed stream c.now) t) (post t)
 
   module _ {T X : Type 0} (c : Both (MutBor (Constructed S)) (MutBor (Constructed S))) (asked : Asked) where
     -- the next primitive value was taken, if there is one; a constructed one is refused

@@ -15,7 +15,7 @@ use Rattle.bcder.specs.calls.Cause.{Cause, cause_of, IsOfContent}
 use Rattle.bcder.specs.declared.decode.error.DecodeError.{DecodeError}
 use Rattle.bcder.specs.declared.decode.content.Constructed.{Constructed}
 use Rattle.bcder.specs.calls.Views.{of_constructed}
-use Rattle.bcder.specs.calls.Content.{Reading, ContentForm, octets, values, Octets, Moves, HasMarker}
+use Rattle.bcder.specs.calls.Content.{Reading, ContentForm, values, Octets, Moves, HasMarker}
 use Rattle.bcder.specs.calls.Content.{NotAtEnd, IsDone, any, NothingThere, Resembles}
 use Rattle.bcder.specs.calls.Refusals.{Refuses}
 use Rattle.bcder.specs.calls.Takes.{NextBy}
@@ -50,7 +50,7 @@ pub record PassesValue (c d : Reading) : Type 0 where
 
 -- content of this form ends after the octets w and before the octets `after`
 abbrev pub ClosesBefore : ContentForm → Mode → Option ℕ → List ℕ → List ℕ → Type 0
-ClosesBefore octets mode o w after = ⊥
+ClosesBefore Octets mode o w after = ⊥
 ClosesBefore (values kind.Definite) mode o w after = o ≡ Some (length w)
 ClosesBefore (values kind.Indefinite) mode o w after = (x : List ℕ) × HasMarker mode after x
 ClosesBefore (values kind.Unbounded) mode o w after = after ≡ []

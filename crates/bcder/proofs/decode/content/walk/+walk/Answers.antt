@@ -2,7 +2,7 @@ use Rattle.std.proofs.Common.{rules, false, ◌≡◌, ◌∙◌, ◌+◌, ◌�
 use Rattle.std.specs.Prelude.{Ok, Some}
 use Rattle.bcder.specs.declared.length.Length.TheVariants.{Definite, Indefinite}
 use Rattle.bcder.specs.steps.StopCause.{stop_cause}
-use Rattle.bcder.specs.calls.Content.{any, FitsOwed, octets, values}
+use Rattle.bcder.specs.calls.Content.{any, FitsOwed, Octets, values}
 use Rattle.bcder.specs.calls.Takes.{HasNone}
 use Rattle.bcder.specs.calls.Refusals.{otherwise}
 use Rattle.bcder.specs.steps.Peek.{is_constructed, len_of, header_of}
@@ -141,7 +141,7 @@ walk_over-returns-in_err-step-clause-ran g t c u =
     let k = of_constructed g.S.Source.stream c.step.new.cons in
     let name = moves_constructed_name g.S.Source.stream c.loop.cons c.step.new.cons c.step.ensures.moves in
     let r = walks_refused stop_cause _ _ j k
-    (λ e. (let x : values c.args.kind ≡ octets = sym (ap values c.over-cons.ensures.kind) ∙ e in cc))
+    (λ e. (let x : values c.args.kind ≡ Octets = sym (ap values c.over-cons.ensures.kind) ∙ e in cc))
     c.loop.invariant.walks c.in_err-step.ensures.passed.refused in
     let p = all_refused (RefusesValues stop_cause) _ k c.from_residual.result _ c.from_residual.ensures.1 r c.in_err-step.ensures.passed.failed
     (c.in_err-step.ensures.passed.mode ∙ c.loop.invariant.walks.mode) (c.in_err-step.ensures.passed.marked ∙ c.loop.invariant.walks.marked) in
