@@ -22,7 +22,6 @@ use Rattle.asn1.specs.Types as types
 use Rattle.asn1.proofs.Lacking.{header_is_not, end_is_not, fields_lack, next_may}
 use Rattle.asn1.proofs.Reading.{failed_holds_none, none_held_at_end, none_not_inside}
 use Rattle.bcder.specs.calls.Refusals as refusals
-use Rattle.bcder.specs.calls.Refusals.{Refuses}
 use Rattle.asn1.proofs.Typed.{next_typed, typed_header}
 
 -- ---- a closure that reads fields, and what the take around it does with what it leaves

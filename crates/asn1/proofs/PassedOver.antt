@@ -10,7 +10,6 @@ use Rattle.bcder.specs.calls.Takes.{NextBy}
 use Rattle.bcder.specs.calls.Skipping as skipping
 use Rattle.bcder.specs.calls.Valued.{HoldsValues}
 use Rattle.bcder.specs.calls.Walking.{HasValues, PassesValue, AllBy}
-use Rattle.bcder.specs.calls.Walking as walking
 use Rattle.bcder.proofs.Lemmas.{open_has_not_ended, open_has_not_failed, IsWithinOwed, values_after, values_with_one_more}
 use Rattle.bcder.proofs.Lemmas.{no_values_at_the_end, no_trees_at_the_end, done_is_at_its_end}
 use Rattle.bcder.proofs.Lemmas.{no_values_without_a_first, as_many_are_no_fewer, grew_in_between}

@@ -11,7 +11,6 @@ use Rattle.bcder.specs.calls.Valued as valued
 use Rattle.bcder.proofs.Lemmas.{IsWithinOwed, header_of_tagged}
 use Rattle.asn1.specs.Types.{Only, HasNoneOf, elsewhere, TakesTyped, HasNoTyped, AllocatesFor, of_header, by_tags, RefusesTyped, TakesNextTyped}
 use Rattle.bcder.specs.calls.Refusals as refusals
-use Rattle.bcder.specs.calls.Refusals.{Refuses}
 use Rattle.asn1.specs.Types as types
 
 pub none_of_one : (tag : Tag) (c d : Reading) → HasNone (tagged tag) c d → HasNoneOf (Only tag) c d

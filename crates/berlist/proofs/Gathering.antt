@@ -15,7 +15,7 @@ use Rattle.bcder.specs.x690.Tree.{Tree, Trees, no_trees, ◌∷ₜ◌}
 use Rattle.bcder.specs.x690.Encoding.{AreEncodings}
 use Rattle.bcder.specs.x690.Preorder.{Heading, preorder, preorders}
 use Rattle.bcder.specs.calls.Content.{Reading, Octets, UnboundedValues, Moves, IsDone, EndsBefore}
-use Rattle.bcder.specs.calls.Walking.{ClosesBefore, HasValues, RefusesValues, Walks}
+use Rattle.bcder.specs.calls.Walking.{ClosesBefore, HasValues, Walks}
 use Rattle.bcder.specs.calls.Skipping.{Steps, Called, SkipsValue, RefusesSkip}
 use Rattle.bcder.specs.calls.Skipping as skipping
 use Rattle.bcder.specs.calls.Refusals as refusals

@@ -1,6 +1,6 @@
 //! The octets that remain of a primitive value.
 ghost use Rattle.std.specs.Prelude.{◌≡◌, [], length, Some, IfErr, OnOk, OnErr};
-ghost use Rattle.bcder.specs.calls.Cause.{cause_of, IsRefusal};
+ghost use Rattle.bcder.specs.calls.Cause.{IsRefusal};
 ghost use Rattle.bcder.specs.calls.Stream.{limit_or};
 ghost use Rattle.bcder.specs.calls.Readers.{AreNeverRefused, RefusesReading};
 ghost use Rattle.bcder.specs.calls.Views.{of_primitive, octets_before, octets_after, MovedOctets};
