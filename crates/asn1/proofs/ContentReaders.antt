@@ -49,9 +49,9 @@ module _ {T X : Type 0} (tag : Tag) (Means : List ℕ → T → Type 0) (Refuses
   mean_none n (primitive t contents) x h means = n x (subst (λ z. Means z x) (sym h.1.rest) means)
   mean_none n (constructed t ts) x h means = means
 
-  refused_octets : (e : DecodeError X) → c.kind ≡ Octets → c.state ≡ Open → RefusesReading Means Refuses c e d → RefusesToRead tag (IsLeaf Means) c e d
-  refused_octets e k o (readers.RefusesReading.missing (readers.RefusesTooFew.source s g)) = valued.RefusesToRead.source s g
-  refused_octets e k o (readers.RefusesReading.missing (readers.RefusesTooFew.few s a n)) = valued.RefusesToRead.nothing (too_few tag (IsLeaf Means) c k o s) a
+  refused_octets : (e : DecodeError X) → c.kind ≡ Octets → c.state ≡ Open → RefusesReading Refuses c e d → RefusesToRead tag (IsLeaf Means) c e d
+  refused_octets e k o (readers.RefusesReading.source s g) = valued.RefusesToRead.source s g
+  refused_octets e k o (readers.RefusesReading.few s a n) = valued.RefusesToRead.nothing (too_few tag (IsLeaf Means) c k o s) a
   refused_octets e k o (readers.RefusesReading.refused h a n) = elim (nothing c.stream.rest e a) [
     | inl m ↦ valued.RefusesToRead.nothing (mean_none m.0) m.1
     | inr m ↦ valued.RefusesToRead.memory m.0 (valued.NeedsMemory.of_octets c.stream.rest m.1.0 (all_held c k o h) m.1.1)

@@ -11,7 +11,7 @@ use Rattle.bcder.specs.calls.Content.{Reading, Octets, tagged, Moves, EndsBefore
 use Rattle.bcder.specs.calls.Calls.{Answered, AnswersDone, TakesValue, HasForm, RefusesFront, RefusesContent, by_closure, unfinished, RefusesEnd, left_failed}
 use Rattle.bcder.specs.calls.Calls.{source_failed, left_open}
 use Rattle.bcder.specs.calls.Takes.{TakesNext, RefusesTake, by_header, by_form, by_content}
-use Rattle.bcder.specs.calls.Valued.{HasNoTree, WantsMemoryFor, HoldsValues, HoldsTree, HasTagged, ReadsTree, RefusesToRead, ReadsContent, ReadsAny}
+use Rattle.bcder.specs.calls.Valued.{HoldsValues, HoldsTree, HasTagged, ReadsTree, RefusesToRead, ReadsContent, ReadsAny, RefusesTree}
 use Rattle.bcder.specs.calls.Valued as valued
 use Rattle.bcder.specs.laws.Moved.{untouched_is_moved}
 use Rattle.bcder.proofs.Lemmas.{IsWithinOwed, as_many_are_no_fewer, done_is_at_its_end, grew_in_between}
@@ -22,7 +22,6 @@ use Rattle.asn1.specs.Types as types
 use Rattle.asn1.proofs.Lacking.{header_is_not, end_is_not, fields_lack, next_may}
 use Rattle.asn1.proofs.Reading.{failed_holds_none, none_held_at_end, none_not_inside}
 use Rattle.bcder.specs.calls.Refusals as refusals
-use Rattle.bcder.specs.calls.Refusals.{Refuses}
 use Rattle.asn1.proofs.Typed.{next_typed, typed_header}
 
 -- ---- a closure that reads fields, and what the take around it does with what it leaves
@@ -226,7 +225,7 @@ module _ {C T X : Type 0} (view : C → Reading) (post : Tag → MutBor C → Re
     not_primitive f (constructed t ts) v rest x h k = primitive_in_front tag c f.after f.front f.is t ts v rest h
 
     refused_form : (e : DecodeError X) → HasForm false (tagged tag) c → IsRefusal e
-        → Refuses cause_of (tagged tag) (HasNoTree tag (Inside c.mode)) (WantsMemoryFor tag (Inside c.mode)) c e d
+        → RefusesTree tag (Inside c.mode) c e d
     refused_form e f a =
         refusals.Refuses.nothing (record { usable = f.usable; value = not_primitive f; absent = λ rest. header_is_there tag c f.after rest f.usable f.front })
         (refused_behind_header (tagged tag) c (cause_of e) a f.after f.front)

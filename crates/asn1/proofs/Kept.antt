@@ -22,7 +22,7 @@ use Rattle.asn1.specs.Types.{at_end, AllocatesFor, of_header, of_depth, by_end, 
 use Rattle.asn1.specs.Types as types
 use Rattle.asn1.specs.Keys.{MeansOne, IsMeantOnce}
 use Rattle.asn1.specs.Writing.{IsReadAs}
-use Rattle.bcder.specs.calls.Cause.{cause_of}
+use Rattle.bcder.specs.calls.Cause.{cause_of, of_memory}
 use Rattle.bcder.specs.calls.Refusals as refusals
 use Rattle.bcder.specs.calls.Refusals.{Refuses}
 use Rattle.bcder.specs.calls.Walking.{HasNoNext}
@@ -65,17 +65,18 @@ module _ (c d : Reading) (w : IsWithinOwed c) (form : c.kind ≢ Octets) (asked 
       of_header (record { tag = tag_of t; is_one = encoded_tag c.mode t v h.encodes; after = f.0; header = f.1 })
   allocates (capturing.HasValueOrDeep.of_depth h) = of_depth (λ t g. g) h
 
-  refused : {X : Type 0} (e : DecodeError X) → Refuses cause_of any HasNoNext HasValueOrDeep c e d → RefusesTyped (Every asked) (KeepsValue c.mode) true c e d
+  refused : {X : Type 0} (e : DecodeError X) → Refuses cause_of any HasNoNext ((cause_of e ≡ of_memory) × HasValueOrDeep c) c e d
+      → RefusesTyped (Every asked) (KeepsValue c.mode) true c e d
   refused e (refusals.Refuses.failed s a) = types.RefusesTyped.failed s a
   refused e (refusals.Refuses.source s g) = types.RefusesTyped.source s g
-  refused e (refusals.Refuses.memory s h) = types.RefusesTyped.memory s refl (allocates h)
+  refused e (refusals.Refuses.otherwise h) = types.RefusesTyped.memory h.0 refl (allocates h.1)
   refused e (refusals.Refuses.nothing n a) =
       types.RefusesTyped.broken
       (record { usable = n.usable; value = λ t v rest x h k. n.none.none t v rest h.0; absent = by_end (λ t g. g) n.some }) a.refused
 
   pub next_kept : {X : Type 0} (r : Result (Option Kept) (DecodeError X)) → CapturesNext c r d → TakesNextTyped (Every asked) (KeepsValue c.mode) true c r d
   next_kept (Ok (Some k)) n = record {
-    value = kept_taken k n.captured;
+    value = kept_taken k n.value;
     none = tt;
     no_fault = n.no_fault;
     refused = tt;
@@ -85,7 +86,7 @@ module _ (c d : Reading) (w : IsWithinOwed c) (form : c.kind ≢ Octets) (asked 
   }
   next_kept (Ok None) n = record {
     value = tt;
-    none = at_end (λ t g. g) form (record { missing = (n.end, n.done); marked = n.marked; no_fault = n.no_fault });
+    none = at_end (λ t g. g) form n.none;
     no_fault = n.no_fault;
     refused = tt;
     failed = tt;

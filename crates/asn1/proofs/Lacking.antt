@@ -26,11 +26,11 @@ second_lacks false m h = h
 -- ---- errors that are not out of memory
 
 module _ {X : Type 0} (e : DecodeError X) (s : cause_of e ≡ of_memory) where
-  pub header_is_not : {asked : Asked} {c d : Reading} → Refuses cause_of asked (NothingThere asked) (λ _. ⊥) c e d → ⊥
+  pub header_is_not : {asked : Asked} {c d : Reading} → Refuses cause_of asked (NothingThere asked) ⊥ c e d → ⊥
   header_is_not (refusals.Refuses.failed q a) = refusal_is_not e s a
   header_is_not (refusals.Refuses.source f g) = source_is_not e s f
   header_is_not (refusals.Refuses.nothing n a) = refusal_is_not e s a.refused
-  header_is_not (refusals.Refuses.memory k n) = absurd n
+  header_is_not (refusals.Refuses.otherwise n) = absurd n
 
   pub end_is_not : {c d : Reading} → RefusesEnd cause_of c e d → ⊥
   end_is_not (left_failed q a) = refusal_is_not e s a

@@ -4,12 +4,12 @@ use Rattle.std.specs.Prelude.{Ok, Err}
 use Rattle.bcder.specs.declared.decode.error.DecodeError.{DecodeError}
 use Rattle.bcder.specs.x690.Tree.{Trees, no_trees}
 use Rattle.bcder.specs.calls.Cause.{cause_of}
-use Rattle.bcder.specs.calls.Content.{Reading, Octets, Moves, EndsBefore, IsDone}
-use Rattle.bcder.specs.calls.Skipping.{RefusesOne, by_walk, RefusesSkipAll, by_values}
+use Rattle.bcder.specs.calls.Content.{any, Reading, Octets, Moves, EndsBefore, IsDone}
+use Rattle.bcder.specs.calls.Skipping.{RefusesOne, RefusesSkipAll, by_values}
+use Rattle.bcder.specs.calls.Takes.{NextBy}
 use Rattle.bcder.specs.calls.Skipping as skipping
 use Rattle.bcder.specs.calls.Valued.{HoldsValues}
-use Rattle.bcder.specs.calls.Walking.{HasValues, PassedBy, AllBy}
-use Rattle.bcder.specs.calls.Walking as walking
+use Rattle.bcder.specs.calls.Walking.{HasValues, PassesValue, AllBy}
 use Rattle.bcder.proofs.Lemmas.{open_has_not_ended, open_has_not_failed, IsWithinOwed, values_after, values_with_one_more}
 use Rattle.bcder.proofs.Lemmas.{no_values_at_the_end, no_trees_at_the_end, done_is_at_its_end}
 use Rattle.bcder.proofs.Lemmas.{no_values_without_a_first, as_many_are_no_fewer, grew_in_between}
@@ -40,9 +40,10 @@ module _ {T : Type 0} (c d : Reading) (k : d.kind ≢ Octets) (x : T) where
 -- ---- one value passed, and all behind it
 
 module _ {T X A : Type 0} (x : T) (c d : Reading) (k : c.kind ≢ Octets) (l : d.kind ≢ Octets) where
-  pub none_to_skip : PassedBy {T = A} {E = DecodeError X} (RefusesOne cause_of) c (Ok None) d → ReadsFields AreAll true {X = X} c (Ok x) d
+  pub none_to_skip : NextBy {T = A} {E = DecodeError X} any (λ i _ j. PassesValue i j) (RefusesOne cause_of) c (Ok None) d
+      → ReadsFields AreAll true {X = X} c (Ok x) d
   none_to_skip p = record {
-    value = all_taken c d l x no_trees (end_holds_none c k d.stream.rest p.end) p.done;
+    value = all_taken c d l x no_trees (end_holds_none c k d.stream.rest p.none.missing.0) p.none.missing.1;
     no_fault = p.no_fault;
     refused = tt;
     mode = p.mode;
@@ -51,18 +52,18 @@ module _ {T X A : Type 0} (x : T) (c d : Reading) (k : c.kind ≢ Octets) (l : d
 
 module _ {T X : Type 0} (c d : Reading) (k : c.kind ≢ Octets) (e : DecodeError X) where
   refused_one : RefusesOne cause_of c e d → RefusesFields (AreAll {T = T}) true c e d
-  refused_one (skipping.RefusesOne.by_walk (refusals.Refuses.failed s a)) =
+  refused_one (refusals.Refuses.failed s a) =
       types.RefusesFields.broken (λ ts us y h i. failed_holds_none c s ts h) a
-  refused_one (skipping.RefusesOne.by_walk (refusals.Refuses.source f g)) = types.RefusesFields.source f g
-  refused_one (skipping.RefusesOne.by_walk (refusals.Refuses.memory k n)) = absurd n
-  refused_one (skipping.RefusesOne.by_walk (refusals.Refuses.nothing n a)) = types.RefusesFields.broken none_held a.refused
+  refused_one (refusals.Refuses.source f g) = types.RefusesFields.source f g
+  refused_one (refusals.Refuses.nothing n a) = types.RefusesFields.broken none_held a.refused
     where
       none_held : (ts us : Trees) (y : T) → HoldsValues c ts → AreAll ts y us → ⊥
       none_held ts us y (inl h) i = no_values_without_a_first c n h.values
       none_held ts us y (inr h) i = open_has_not_ended c.state n.usable h.0
-  refused_one (skipping.RefusesOne.by_depth g m) = types.RefusesFields.memory m refl
+  refused_one (refusals.Refuses.otherwise g) = types.RefusesFields.memory g.0 refl
 
-  pub refuses_to_skip : {A : Type 0} → PassedBy {T = A} (RefusesOne cause_of) c (Err e) d → ReadsFields (AreAll {T = T}) true c (Err e) d
+  pub refuses_to_skip : {A : Type 0} → NextBy {T = A} any (λ i _ j. PassesValue i j) (RefusesOne cause_of) c (Err e) d
+      → ReadsFields (AreAll {T = T}) true c (Err e) d
   refuses_to_skip {A} p = record {
     value = tt;
     no_fault = tt;
@@ -73,7 +74,7 @@ module _ {T X : Type 0} (c d : Reading) (k : c.kind ≢ Octets) (e : DecodeError
 
 -- the first of them was passed, and then those behind it
 module _ {X A : Type 0} (c j d : Reading) (w : IsWithinOwed c) (k : j.kind ≢ Octets) (l : d.kind ≢ Octets) (m : Moves c j) (u : A)
-    (p : PassedBy {E = DecodeError X} (RefusesOne cause_of) c (Ok (Some u)) j) where
+    (p : NextBy {E = DecodeError X} any (λ i _ j. PassesValue i j) (RefusesOne cause_of) c (Ok (Some u)) j) where
   pub behind_first : (ts : Trees) → HoldsValues c ts → HasValues j
   unfolding Moves
   behind_first ts (inl h) = values_after c j w p.value m p.mode h.values
@@ -98,13 +99,13 @@ module _ {X A : Type 0} (c j d : Reading) (w : IsWithinOwed c) (k : j.kind ≢ O
       }
 
   pub refused_behind : {T : Type 0} (e : DecodeError X) → RefusesSkipAll cause_of j e d → RefusesFields (AreAll {T = T}) true c e d
-  refused_behind {T} e (skipping.RefusesSkipAll.by_values (walking.RefusesValues.failed s a)) =
+  refused_behind {T} e (skipping.RefusesSkipAll.by_values (refusals.Refuses.failed s a)) =
       absurd (open_has_not_failed j.state p.value.stays s)
-  refused_behind {T} e (skipping.RefusesSkipAll.by_values (walking.RefusesValues.source f g)) =
+  refused_behind {T} e (skipping.RefusesSkipAll.by_values (refusals.Refuses.source f g)) =
       types.RefusesFields.source f (grew_in_between _ _ _ _ (as_many_are_no_fewer _ _ p.no_fault) g refl)
-  refused_behind {T} e (skipping.RefusesSkipAll.by_values (walking.RefusesValues.broken o n a)) =
-      types.RefusesFields.broken (λ ts us y h i. n (behind_first ts h)) a.refused
-  refused_behind {T} e (skipping.RefusesSkipAll.by_values (walking.RefusesValues.short o s a)) = absurd (k o)
+  refused_behind {T} e (skipping.RefusesSkipAll.by_values (refusals.Refuses.nothing n a)) =
+      types.RefusesFields.broken (λ ts us y h i. n.1 (behind_first ts h)) a.refused
+  refused_behind {T} e (skipping.RefusesSkipAll.by_values (refusals.Refuses.otherwise s)) = absurd (k s.0)
   refused_behind {T} e (skipping.RefusesSkipAll.by_depth i v g f) = types.RefusesFields.memory f refl
 
   pub refuses_behind : {T : Type 0} (e : DecodeError X) → AllBy {T = Unit {0}} (RefusesSkipAll cause_of) j (Err e) d

@@ -239,10 +239,10 @@ module _ {T : Type 0} (Tags : Tag → Type 0) (Means : Tree → T → Type 0) (c
 
     module _ (kd : d.kind ≢ Octets) (ke : e.kind ≢ Octets) {X : Type 0} where
       all_before : (n : CapturesNext {X = X} d (Ok None) e) → HoldsValues c r.trees
-      all_before n = subst (HoldsValues c) (and_none r.trees) (r.before no_trees (none_held_at_end d e.stream.rest kd n.end))
+      all_before n = subst (HoldsValues c) (and_none r.trees) (r.before no_trees (none_held_at_end d e.stream.rest kd n.none.missing.0))
 
       nothing_left : (n : CapturesNext {X = X} d (Ok None) e) → HoldsValues e no_trees
-      nothing_left n = none_held_at_end e e.stream.rest ke (done_is_at_its_end e e.kind refl n.done)
+      nothing_left n = none_held_at_end e e.stream.rest ke (done_is_at_its_end e e.kind refl n.none.missing.1)
 
       whole_set : (n : CapturesNext {X = X} d (Ok None) e) → TakesFields (AreSetOf c.mode Tags Means) c xs e
       whole_set n = record {
@@ -262,14 +262,15 @@ module _ {T : Type 0} (Tags : Tag → Type 0) (Means : Tree → T → Type 0) (c
       no_value_there n no_trees h = none_not_inside d w n.some h
       no_value_there n (t ∷ₜ us) h = (let z = next_value d t us h in n.none.none t z.0 z.1 z.2)
 
-      capture_refused : Refuses cause_of any HasNoNext HasValueOrDeep d f e → RefusesFields (AreSetOf c.mode Tags Means) true c f e
+      capture_refused : Refuses cause_of any HasNoNext ((cause_of f ≡ of_memory) × HasValueOrDeep d) d f e
+          → RefusesFields (AreSetOf c.mode Tags Means) true c f e
       capture_refused (refusals.Refuses.failed s a) =
           types.RefusesFields.broken (λ ts us y h g. (let b = r.behind ts h in failed_holds_none d s b.0 b.2)) a
       capture_refused (refusals.Refuses.source s g) =
           types.RefusesFields.source s (grew_in_between _ _ _ _ (as_many_are_no_fewer _ _ r.no_fault) g refl)
       capture_refused (refusals.Refuses.nothing n a) =
           types.RefusesFields.broken (λ ts us y h g. (let b = r.behind ts h in no_value_there n b.0 b.2)) a.refused
-      capture_refused (refusals.Refuses.memory s h) = types.RefusesFields.memory s refl
+      capture_refused (refusals.Refuses.otherwise h) = types.RefusesFields.memory h.0 refl
 
       pub refuses_set : CapturesNext d (Err f) e → ReadsFields (AreSetOf c.mode Tags Means) true c (Err f) e
       refuses_set n = record { value = tt; no_fault = tt; refused = capture_refused n.refused; mode = o ∙ r.mode; marked = n.marked ∙ r.marked }

@@ -21,8 +21,9 @@ module _ {B T X : Type 0} (now : B → List ℕ) (Tells : B → T → Type 0) (R
   nothing : (w : List ℕ) (e : DecodeError X) → TellNothing now Refuses w e → MeanNothing Means w e
   nothing w e u = (let n = untold u.0 u.1 u.3 in (subst (λ z. (x : T) → Means z x → ⊥) u.2 n.0, subst IsOfContent (sym u.4) n.1))
 
-  refused : (e : DecodeError X) → RefusesReading (TellOf now Tells) (TellNothing now Refuses) c e d → RefusesReading Means (MeanNothing Means) c e d
-  refused e (readers.RefusesReading.missing m) = readers.RefusesReading.missing m
+  refused : (e : DecodeError X) → RefusesReading (TellNothing now Refuses) c e d → RefusesReading (MeanNothing Means) c e d
+  refused e (readers.RefusesReading.source s g) = readers.RefusesReading.source s g
+  refused e (readers.RefusesReading.few s a n) = readers.RefusesReading.few s a n
   refused e (readers.RefusesReading.refused h u n) = readers.RefusesReading.refused h (nothing c.stream.rest e u) n
 
   told_by : ((p : B) (x : T) → Tells p x → Means (now p) x) → (r : Result T (DecodeError X)) → Reads (TellOf now Tells) (TellNothing now Refuses) c r d

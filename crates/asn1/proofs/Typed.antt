@@ -6,13 +6,11 @@ use Rattle.bcder.specs.x690.Identifier.{Tag}
 use Rattle.bcder.specs.x690.Tree.{Tree}
 use Rattle.bcder.specs.calls.Content.{Reading, tagged, HasHeader}
 use Rattle.bcder.specs.calls.Takes.{HasNone}
-use Rattle.bcder.specs.calls.Valued.{TakesTree, HasNoTree, WantsMemoryFor, TakesNextTree}
+use Rattle.bcder.specs.calls.Valued.{TakesTree, HasNoTree, WantsMemoryFor, TakesNextTree, RefusesTree}
 use Rattle.bcder.specs.calls.Valued as valued
 use Rattle.bcder.proofs.Lemmas.{IsWithinOwed, header_of_tagged}
 use Rattle.asn1.specs.Types.{Only, HasNoneOf, elsewhere, TakesTyped, HasNoTyped, AllocatesFor, of_header, by_tags, RefusesTyped, TakesNextTyped}
-use Rattle.bcder.specs.calls.Cause.{cause_of}
 use Rattle.bcder.specs.calls.Refusals as refusals
-use Rattle.bcder.specs.calls.Refusals.{Refuses}
 use Rattle.asn1.specs.Types as types
 
 pub none_of_one : (tag : Tag) (c d : Reading) → HasNone (tagged tag) c d → HasNoneOf (Only tag) c d
@@ -32,11 +30,11 @@ module _ {T : Type 0} (tag : Tag) (Means : Tree → T → Type 0) (c d : Reading
   needed (valued.WantsMemoryFor.of_value t v rest x h m) = (let y = header_of_tagged c w tag t v rest h in typed_header tag c y.0 y.1)
   needed (valued.WantsMemoryFor.of_header o after h f) = typed_header tag c after h
 
-  refused : {X : Type 0} (e : DecodeError X) → Refuses cause_of (tagged tag) (HasNoTree tag Means) (WantsMemoryFor tag Means) c e d
+  refused : {X : Type 0} (e : DecodeError X) → RefusesTree tag Means c e d
       → RefusesTyped (Only tag) Means true c e d
   refused e (refusals.Refuses.failed s a) = types.RefusesTyped.failed s a
   refused e (refusals.Refuses.source s g) = types.RefusesTyped.source s g
-  refused e (refusals.Refuses.memory s n) = types.RefusesTyped.memory s refl (needed n)
+  refused e (refusals.Refuses.otherwise n) = types.RefusesTyped.memory n.0 refl (needed n.1)
   refused e (refusals.Refuses.nothing n a) = types.RefusesTyped.broken (none_there n) a.refused
 
   pub next_typed : {X : Type 0} (r : Result (Option T) (DecodeError X)) → TakesNextTree tag Means c r d → TakesNextTyped (Only tag) Means true c r d

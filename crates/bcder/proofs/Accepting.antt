@@ -1,5 +1,5 @@
 -- A string that is read, and then checked against a set.
-use Rattle.std.proofs.Common.{◌≡◌, ◌≢◌, ℕ, ◌≤◌, List, length, refl, ap, sym, ◌∙◌, subst, inl, inr}
+use Rattle.std.proofs.Common.{◌≡◌, ◌≢◌, ℕ, ◌≤◌, List, refl, ap, sym, ◌∙◌, subst, inl, inr}
 use Rattle.std.specs.Prelude.{Result, Ok, Err, IfOk, IfErr}
 use Rattle.bcder.specs.declared.mode.Mode.{Mode}
 use Rattle.bcder.specs.declared.mode.Mode.TheVariants.{Cer}
@@ -98,9 +98,9 @@ module _ (step : Step) (tag : Tag) (c d : Reading) (k : (c.kind ≡ Octets) × (
       record { value = tt; done = tt; no_fault = tt; refused = nothing (λ t x h m. long_none tag c k long t x h m.0) a; mode = refl; marked = refl }
 
   characters_refused : {X : Type 0} (e : DecodeError X) → (c.mode ≡ Cer → limit_or c.owed 0 ≤ 1000)
-      → RefusesReading (λ w (b : List ℕ). (b ≡ w) × IsOfSet step w) (NoCharacters step) c e d → RefusesToRead tag (MeansPiece step c.mode) c e d
-  characters_refused e most (readers.RefusesReading.missing (readers.RefusesTooFew.source s g)) = source s g
-  characters_refused e most (readers.RefusesReading.missing (readers.RefusesTooFew.few s a n)) = nothing (too_few tag _ c k.0 k.1 s) a
+      → RefusesReading (NoCharacters step) c e d → RefusesToRead tag (MeansPiece step c.mode) c e d
+  characters_refused e most (readers.RefusesReading.source s g) = source s g
+  characters_refused e most (readers.RefusesReading.few s a n) = nothing (too_few tag _ c k.0 k.1 s) a
   characters_refused e most (readers.RefusesReading.refused h (inl n) f) = nothing (none_of_set n.0) n.1
   characters_refused e most (readers.RefusesReading.refused h (inr m) f) =
       memory m.0 (of_octets c.stream.rest c.stream.rest (all_held c k.0 k.1 h) ((all_whole c most h, refl), m.1))

@@ -21,7 +21,7 @@ use Rattle.bcder.specs.calls.Takes.{HasNone, TakesNext, by_form}
 use Rattle.bcder.proofs.Entering.{looked_enters, header_entered, no_fewer}
 use Rattle.bcder.proofs.Stopping.{header_stopped}
 use Rattle.bcder.proofs.Taking.{next_refused}
-use Rattle.bcder.specs.calls.Refusals.{Refuses, failed, source, nothing, memory}
+use Rattle.bcder.specs.calls.Refusals.{Refuses, failed, source, nothing, otherwise}
 use Rattle.bcder.proofs.Naming.{nothing_violated, looked_alike, header_alike, named_alike}
 
 alike : (c d : Reading) → Resembles c d → Resembles d c
@@ -59,11 +59,11 @@ module _ (c d e : Reading) (s : Resembles c d) (f : d.stream.faults ≡ c.stream
     no_fault = n.no_fault ∙ f;
   }
 
-  refused_ahead : {E : Type 0} (why : E → Cause ContentError) (x : E) → Refuses why (tagged t) (NothingThere (tagged t)) (λ _. ⊥) d x e
-      → Refuses why (tagged t) (NothingThere (tagged t)) (λ _. ⊥) c x e
+  refused_ahead : {E : Type 0} (why : E → Cause ContentError) (x : E) → Refuses why (tagged t) (NothingThere (tagged t)) ⊥ d x e
+      → Refuses why (tagged t) (NothingThere (tagged t)) ⊥ c x e
   refused_ahead why x (failed h o) = failed (sym s.state ∙ h) o
   refused_ahead why x (source k g) = source k (subst (λ z. Grew z e.stream.faults) f g)
-  refused_ahead why x (memory k n) = absurd n
+  refused_ahead why x (otherwise n) = absurd n
   refused_ahead why x (nothing n o) = nothing_violated why (tagged t) c e x (record {
     usable = sym s.state ∙ n.usable;
     header = λ after h. n.header after (header_alike d c (looked_alike d c (alike c d s)) (tagged t) after h);
@@ -113,7 +113,7 @@ IsOfCause s e = cause_of e ≡ s
 module _ {C T X S : Type 0} (view : C → Reading) (post : Tag → MutBor C → Result T (DecodeError X) → MutBor C → Type 0) (c d : Reading)
     (mode : d.mode ≡ c.mode) (t : Tag) where
   pub next_stopped : (stopped : S → Cause ContentError) (s : S) (e : DecodeError X) → IsOfCause (stopped s) e → d.marked ≡ c.marked → d.state ≡ Failed
-      → Refuses stopped (tagged t) (NothingThere (tagged t)) (λ _. ⊥) c s d ⊎ HasForm true (tagged t) c × IsOfContent (stopped s)
+      → Refuses stopped (tagged t) (NothingThere (tagged t)) ⊥ c s d ⊎ HasForm true (tagged t) c × IsOfContent (stopped s)
       → TakesNext view post (Some true) (tagged t) c (Err e) d
   next_stopped stopped s e same m f (inl h) =
       next_refused view post (Some true) (tagged t) c d mode e (header_stopped stopped cause_of s e same c d (tagged t) h) m f
@@ -122,7 +122,7 @@ module _ {C T X S : Type 0} (view : C → Reading) (post : Tag → MutBor C → 
 
   -- a result that is an error of this cause refuses the next value
   pub next_stops : (stopped : S → Cause ContentError) (s : S) (r : Result (Option T) (DecodeError X)) → IsErrAnd r (IsOfCause (stopped s)) → d.marked ≡ c.marked
-      → d.state ≡ Failed → Refuses stopped (tagged t) (NothingThere (tagged t)) (λ _. ⊥) c s d ⊎ HasForm true (tagged t) c × IsOfContent (stopped s)
+      → d.state ≡ Failed → Refuses stopped (tagged t) (NothingThere (tagged t)) ⊥ c s d ⊎ HasForm true (tagged t) c × IsOfContent (stopped s)
       → TakesNext view post (Some true) (tagged t) c r d
   next_stops stopped s (Err e) y m f h = next_stopped stopped s e y m f h
   next_stops stopped s (Ok _) y m f h = elim y [ ]
@@ -131,6 +131,6 @@ module _ {C T X S : Type 0} (view : C → Reading) (post : Tag → MutBor C → 
 module _ {C T X S : Type 0} (view : C → Reading) (post : Tag → MutBor C → Result T (DecodeError X) → MutBor C → Type 0) (form : Option Bool) (asked : Asked)
     (c d : Reading) (mode : d.mode ≡ c.mode) where
   pub next_answered : (stopped : S → Cause ContentError) (s : S) (r : Result (Option T) (DecodeError X)) → IsErrAnd r (IsOfCause (stopped s))
-      → d.marked ≡ c.marked → d.state ≡ Failed → Refuses stopped asked (NothingThere asked) (λ _. ⊥) c s d → TakesNext view post form asked c r d
+      → d.marked ≡ c.marked → d.state ≡ Failed → Refuses stopped asked (NothingThere asked) ⊥ c s d → TakesNext view post form asked c r d
   next_answered stopped s (Err e) y m f h = next_refused view post form asked c d mode e (header_stopped stopped cause_of s e y c d asked h) m f
   next_answered stopped s (Ok _) y m f h = elim y [ ]

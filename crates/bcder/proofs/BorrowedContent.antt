@@ -9,9 +9,9 @@ use Rattle.bcder.specs.calls.Cause.{Cause}
 use Rattle.bcder.specs.x690.Preorder.{Heading}
 use Rattle.bcder.specs.calls.Stream.{Stream}
 use Rattle.bcder.specs.calls.Content.{any, Reading, ContentForm, Moves, Whole, EndsBefore, NotAtEnd}
-use Rattle.bcder.specs.calls.Walking.{HasNoNext, PassesValue, PassedBy}
+use Rattle.bcder.specs.calls.Walking.{HasNoNext, PassesValue}
+use Rattle.bcder.specs.calls.Takes.{NextBy}
 use Rattle.bcder.specs.calls.Skipping.{WereCalls, RefusesOne}
-use Rattle.bcder.specs.calls.Skipping as skipping
 use Rattle.bcder.specs.calls.Refusals as refusals
 use Rattle.bcder.specs.calls.Refusals.{Refuses}
 use Rattle.bcder.proofs.Naming.{Alike, ends_alike, front_named}
@@ -74,19 +74,19 @@ module _ (n : GName) where
   }
 
   module _ {E : Type 0} (why : E → Cause ContentError) (c d : Reading) where
-    refused_named : (x : E) → Refuses why any HasNoNext (λ _. ⊥) c x d → Refuses why any HasNoNext (λ _. ⊥) (named n c) x (named n d)
-    refused_named x (refusals.Refuses.failed h o) = refusals.Refuses.failed h o
-    refused_named x (refusals.Refuses.source h g) = refusals.Refuses.source h g
-    refused_named x (refusals.Refuses.nothing v o) = refusals.Refuses.nothing (nothing_named c v) (front_named (named n c) c (alike_named c) (why x) o)
-    refused_named x (refusals.Refuses.memory h v) = absurd v
+    refused_named : {A B : Type 0} → (A → B) → (x : E) → Refuses why any HasNoNext A c x d → Refuses why any HasNoNext B (named n c) x (named n d)
+    refused_named o x (refusals.Refuses.failed h i) = refusals.Refuses.failed h i
+    refused_named o x (refusals.Refuses.source h g) = refusals.Refuses.source h g
+    refused_named o x (refusals.Refuses.nothing v i) = refusals.Refuses.nothing (nothing_named c v) (front_named (named n c) c (alike_named c) (why x) i)
+    refused_named o x (refusals.Refuses.otherwise v) = refusals.Refuses.otherwise (o v)
 
     -- whatever is refused of the content behind the other borrow too
     passed_named : {T : Type 0} (Refuses : Reading → E → Reading → Type 0) → ((x : E) → Refuses c x d → Refuses (named n c) x (named n d))
-        → (r : Result (Option T) E) → PassedBy Refuses c r d → PassedBy Refuses (named n c) r (named n d)
+        → (r : Result (Option T) E) → NextBy any (λ i _ j. PassesValue i j) Refuses c r d
+        → NextBy any (λ i _ j. PassesValue i j) Refuses (named n c) r (named n d)
     passed_named Refuses f (Ok None) p = record {
       value = tt;
-      end = ends_named c d.stream.rest p.end;
-      done = p.done;
+      none = record { missing = (ends_named c d.stream.rest p.none.missing.0, p.none.missing.1); marked = p.marked; no_fault = p.no_fault };
       no_fault = p.no_fault;
       refused = tt;
       failed = tt;
@@ -94,9 +94,9 @@ module _ (n : GName) where
       marked = p.marked;
     }
     passed_named Refuses f (Ok (Some x)) p =
-        record { value = value_named c d p.value; end = tt; done = tt; no_fault = p.no_fault; refused = tt; failed = tt; mode = p.mode; marked = p.marked }
+        record { value = value_named c d p.value; none = tt; no_fault = p.no_fault; refused = tt; failed = tt; mode = p.mode; marked = p.marked }
     passed_named Refuses f (Err x) p =
-        record { value = tt; end = tt; done = tt; no_fault = tt; refused = f x p.refused; failed = p.failed; mode = p.mode; marked = p.marked }
+        record { value = tt; none = tt; no_fault = tt; refused = f x p.refused; failed = p.failed; mode = p.mode; marked = p.marked }
 
     calls_named : (calls : List Heading) → WereCalls c calls d → WereCalls (named n c) calls (named n d)
     calls_named calls w = record {
@@ -108,9 +108,8 @@ module _ (n : GName) where
     }
 
     one_named : (y : E) → RefusesOne why c y d → RefusesOne why (named n c) y (named n d)
-    one_named y (skipping.RefusesOne.by_walk r) = skipping.RefusesOne.by_walk (refused_named y r)
-    one_named y (skipping.RefusesOne.by_depth g j) =
-        skipping.RefusesOne.by_depth (record { calls = g.calls; last = g.last; were = calls_named _ g.were; constructed = g.constructed; deep = g.deep }) j
+    one_named y r = refused_named (λ x. (let g = x.1 in
+        (x.0, record { calls = g.calls; last = g.last; were = calls_named _ g.were; constructed = g.constructed; deep = g.deep }))) y r
 
 same_fields : (s s' : Stream) → s ≡ s' → (o o' : Option ℕ) → o ≡ o' → (k k' : ContentForm) → k ≡ k' → (t t' : State) → t ≡ t' → (m m' : Mode) → m ≡ m'
     → (b b' : Bool) → b ≡ b' → (n n' : GName) → n ≡ n'
@@ -132,12 +131,14 @@ module _ (n : GName) (c d e : Reading) (s : d.stream ≡ e.stream) (o : d.owed �
   pub moves_behind : Moves (named n c) e
   moves_behind = subst (λ z. Moves (named n c) z) is_named (moves_named n c d mv)
 
-  pub passed_behind : {T E : Type 0} (why : E → Cause ContentError) (r : Result (Option T) E) → PassedBy (Refuses why any HasNoNext (λ _. ⊥)) c r d
-      → PassedBy (Refuses why any HasNoNext (λ _. ⊥)) (named n c) r e
+  pub passed_behind : {T E : Type 0} (why : E → Cause ContentError) (r : Result (Option T) E)
+      → NextBy any (λ i _ j. PassesValue i j) (Refuses why any HasNoNext ⊥) c r d
+      → NextBy any (λ i _ j. PassesValue i j) (Refuses why any HasNoNext ⊥) (named n c) r e
   passed_behind why r p =
-      subst (λ z. PassedBy (Refuses why any HasNoNext (λ _. ⊥)) (named n c) r z) is_named
-      (passed_named n why c d (Refuses why any HasNoNext (λ _. ⊥)) (refused_named n why c d) r p)
+      subst (λ z. NextBy any (λ i _ j. PassesValue i j) (Refuses why any HasNoNext ⊥) (named n c) r z) is_named
+      (passed_named n why c d (Refuses why any HasNoNext ⊥) (refused_named n why c d (λ x. x)) r p)
 
-  pub skipped_behind : {T E : Type 0} (why : E → Cause ContentError) (r : Result (Option T) E) → PassedBy (RefusesOne why) c r d
-      → PassedBy (RefusesOne why) (named n c) r e
-  skipped_behind why r p = subst (λ z. PassedBy (RefusesOne why) (named n c) r z) is_named (passed_named n why c d (RefusesOne why) (one_named n why c d) r p)
+  pub skipped_behind : {T E : Type 0} (why : E → Cause ContentError) (r : Result (Option T) E)
+      → NextBy any (λ i _ j. PassesValue i j) (RefusesOne why) c r d → NextBy any (λ i _ j. PassesValue i j) (RefusesOne why) (named n c) r e
+  skipped_behind why r p = subst (λ z. NextBy any (λ i _ j. PassesValue i j) (RefusesOne why) (named n c) r z) is_named
+      (passed_named n why c d (RefusesOne why) (one_named n why c d) r p)

@@ -9,7 +9,7 @@ use Rattle.bcder.specs.declared.decode.content.Kind.TheVariants as kind
 use Rattle.bcder.specs.declared.decode.content.State.TheVariants.{Open, Ended, Failed}
 use Rattle.bcder.specs.declared.decode.error.DecodeError.{DecodeError}
 use Rattle.bcder.specs.declared.decode.error.ContentError.{ContentError}
-use Rattle.bcder.specs.calls.Cause.{Cause, cause_of}
+use Rattle.bcder.specs.calls.Cause.{Cause, cause_of, of_memory}
 use Rattle.bcder.specs.x690.Tree.{Tree}
 use Rattle.bcder.specs.x690.Encoding.{IsEncoding, AreEncodings}
 use Rattle.bcder.specs.x690.Preorder.{Heading}
@@ -17,18 +17,16 @@ use Rattle.bcder.specs.x690.Grammar.{IsOnly}
 use Rattle.bcder.specs.calls.Stream.{Grew}
 use Rattle.bcder.specs.calls.Captured.{Kept, AreWhole}
 use Rattle.bcder.specs.calls.Capturing.{IsCaptureOf, Captures, RefusesCapture, RefusesLeft, by_content, by_source, by_memory}
-use Rattle.bcder.specs.calls.Refusals.{Refuses, failed, source, nothing, memory}
+use Rattle.bcder.specs.calls.Refusals.{Refuses, failed, source, nothing, otherwise}
 use Rattle.bcder.specs.calls.CapturingValues.{CapturesBy, PassesBy, LeadDeep, BeginsDeep}
 use Rattle.bcder.specs.calls.CapturingValues.{HasValueOrDeep, of_value, of_depth, HasValuesOrDeep, MetDeep, CapturesValue}
 use Rattle.bcder.specs.calls.CapturingValues.{CapturesNext, CapturesValues, HasOthers, PassesToEnd}
-use Rattle.bcder.specs.calls.Content.{NothingThere, Reading, ContentForm, octets, values, Octets, IndefiniteValues, label, Closes, Moves, Whole, Falls}
-use Rattle.bcder.specs.calls.Content.{HasMarker, EndsAt, NotAtEnd, IsDone, IsUsedUp, any}
+use Rattle.bcder.specs.calls.Content.{NothingThere, Reading, ContentForm, values, Octets, IndefiniteValues, label, Closes, Moves, Whole, Falls}
+use Rattle.bcder.specs.calls.Content.{HasMarker, EndsBefore, NotAtEnd, IsDone, IsUsedUp, any}
 use Rattle.bcder.specs.calls.Calls.{Answered}
 use Rattle.bcder.specs.calls.Decoding.{by_closure, left_failed}
-use Rattle.bcder.specs.calls.Walking.{HasNoNext, HasNoValue, HasValue, PassesValue, ClosesBefore, HasValues, Walks}
-use Rattle.bcder.specs.calls.Walking as walking
+use Rattle.bcder.specs.calls.Walking.{HasNoNext, HasNoValue, HasValue, PassesValue, ClosesBefore, HasValues, Walks, RefusesValues}
 use Rattle.bcder.specs.calls.Skipping.{RefusesOne, GoesDeep}
-use Rattle.bcder.specs.calls.Skipping as skipping
 use Rattle.bcder.specs.calls.Takes.{HasNone}
 use Rattle.bcder.specs.steps.Entering.{GoesOn}
 use Rattle.bcder.proofs.Moving.{open_not_ended, open_not_failed}
@@ -79,14 +77,14 @@ module _ (c i : Reading) (h : IsCaptureOf c i) where
   others_of n = record { usable = sym h.state ∙ n.usable; none = λ v. n.none (values_of v) }
 
 -- what is refused of the content inside is refused of that around it
-where_of : {X : Type 0} (P Q D E : Reading → Type 0) (c i j d : Reading) → (P i → Q c) → (D i → E c) → (e : DecodeError X) → Alike c i
+where_of : {X : Type 0} (P Q : Reading → Type 0) (D E : Type 0) (c i j d : Reading) → (P i → Q c) → (D → E) → (e : DecodeError X) → Alike c i
     → i.stream.faults ≡ c.stream.faults → d.stream.faults ≡ j.stream.faults → Refuses cause_of any P D i e j → Refuses cause_of any Q E c e d
 where_of P Q D E c i j d f g e s a b (failed x o) = failed (sym s.state ∙ x) o
 where_of P Q D E c i j d f g e s a b (source k y) = source k (rw (← a, b) y)
 where_of P Q D E c i j d f g e s a b (nothing n o) = nothing (f n) (front_named c i s (cause_of e) o)
-where_of P Q D E c i j d f g e s a b (memory m n) = memory m (g n)
+where_of P Q D E c i j d f g e s a b (otherwise n) = otherwise (g n)
 
-pub end_has_none : (c d : Reading) → Within c → EndsAt c d → HasNoValue c
+pub end_has_none : (c d : Reading) → Within c → EndsBefore c d.stream.rest → HasNoValue c
 end_has_none c d w e = record { none = λ t v after h. (value_not_at_end c w t v after h).none d.stream.rest e }
 
 -- ---- a closure whose steps are captured
@@ -113,12 +111,12 @@ module _ {C X : Type 0} (view : C → Reading) (post : MutBor C → Result (Unit
   left_mark i j e n (by_memory a u k s f) = (did i j (Ok tt) a).marked
 
   refused_left : (c i j d : Reading) (e : DecodeError X) → IsCaptureOf c i → Moves i j → RefusesLeft view post i e j d.stream.faults
-      → Refuses cause_of any HasNone HasSome c e d
+      → Refuses cause_of any HasNone ((cause_of e ≡ of_memory) × HasSome c) c e d
   refused_left c i j d e h v (by_content (by_closure a) f) =
-      where_of _ _ _ _ c i j d (around c i h) (deep_around c i h) e (capture_alike c i h) h.faults f (did i j (Err e) a).refused
+      where_of _ _ _ _ c i j d (around c i h) (λ x. (x.0, deep_around c i h x.1)) e (capture_alike c i h) h.faults f (did i j (Err e) a).refused
   refused_left c i j d e h v (by_content (left_failed x a s o) f) = absurd (usable i j (did i j (Ok x) a).passed s)
   refused_left c i j d e h v (by_source a u k g) = source k (subst (λ z. Grew z d.stream.faults) ((did i j (Ok tt) a).no_fault ∙ h.faults) g)
-  refused_left c i j d e h v (by_memory a u k s f) = memory k (some_around c i j h v (did i j (Ok tt) a).passed s)
+  refused_left c i j d e h v (by_memory a u k s f) = otherwise (k, some_around c i j h v (did i j (Ok tt) a).passed s)
 
   mark_of : (c d i j : Reading) → i.marked ≡ false → j.marked ≡ i.marked → d.marked ≡ (c.marked || j.marked) → d.marked ≡ c.marked
   mark_of c d i j f s m = m ∙ ap (λ z. c.marked || z) (s ∙ f) ∙ or_false c.marked
@@ -213,9 +211,8 @@ module _ (c i : Reading) (g : GoesOn c i) where
   module _ {X : Type 0} (f : i.stream.faults ≡ c.stream.faults) (d : Reading) where
     pub next_captured : (k : Kept) → CapturesBy {X = X} CapturesValue HasNoValue HasValueOrDeep i (Ok k) d → CapturesNext {X = X} c (Ok (Some k)) d
     next_captured k h = record {
-      captured = captured_first k d h.captured;
-      end = tt;
-      done = tt;
+      value = captured_first k d h.captured;
+      none = tt;
       no_fault = h.no_fault ∙ f;
       refused = tt;
       failed = tt;
@@ -227,11 +224,10 @@ module _ (c i : Reading) (g : GoesOn c i) where
     module _ (e : DecodeError X) (h : CapturesBy {X = X} CapturesValue HasNoValue HasValueOrDeep i (Err e) d) where
       pub next_failed : CapturesNext {X = X} c (Err e) (as_failed d)
       next_failed = record {
-        captured = tt;
-        end = tt;
-        done = tt;
+        value = tt;
+        none = tt;
         no_fault = tt;
-        refused = where_of _ _ _ _ c i d (as_failed d) none_first some_first e (looked_alike c i g.same) f refl h.refused;
+        refused = where_of _ _ _ _ c i d (as_failed d) none_first (λ x. (x.0, some_first x.1)) e (looked_alike c i g.same) f refl h.refused;
         failed = refl;
         mode = h.mode ∙ g.same.mode;
         marked = h.marked ∙ g.same.marked;
@@ -244,9 +240,8 @@ module _ (c i : Reading) (g : GoesOn c i) where
 
 pub next_ended : {X : Type 0} (c d : Reading) → HasNone any c d → d.mode ≡ c.mode → CapturesNext {X = X} c (Ok None) d
 next_ended c d n m = record {
-  captured = tt;
-  end = n.missing.0;
-  done = n.missing.1;
+  value = tt;
+  none = n;
   no_fault = n.no_fault;
   refused = tt;
   failed = tt;
@@ -256,11 +251,10 @@ next_ended c d n m = record {
 
 -- no header comes next
 pub next_stopped : {S X : Type 0} (why : S → Cause ContentError) (s : S) (e : DecodeError X) (c d : Reading) → Within c → cause_of e ≡ why s
-    → Refuses why any (NothingThere any) (λ _. ⊥) c s d → d.state ≡ Failed → d.mode ≡ c.mode → d.marked ≡ c.marked → CapturesNext {X = X} c (Err e) d
+    → Refuses why any (NothingThere any) ⊥ c s d → d.state ≡ Failed → d.mode ≡ c.mode → d.marked ≡ c.marked → CapturesNext {X = X} c (Err e) d
 next_stopped why s e c d w k h f m a = record {
-  captured = tt;
-  end = tt;
-  done = tt;
+  value = tt;
+  none = tt;
   no_fault = tt;
   refused = walked (walk_stopped why cause_of s e k c d (next_refused why c d s w h));
   failed = f;
@@ -268,11 +262,11 @@ next_stopped why s e c d w k h f m a = record {
   marked = a;
 }
   where
-    walked : Refuses cause_of any HasNoNext (λ _. ⊥) c e d → Refuses cause_of any HasNoNext HasValueOrDeep c e d
+    walked : Refuses cause_of any HasNoNext ⊥ c e d → Refuses cause_of any HasNoNext ((cause_of e ≡ of_memory) × HasValueOrDeep c) c e d
     walked (failed x o) = failed x o
     walked (source x y) = source x y
     walked (nothing n o) = nothing n o
-    walked (memory x n) = absurd n
+    walked (otherwise n) = absurd n
 
 -- ---- all values
 
@@ -340,7 +334,7 @@ module _ {C X : Type 0} (view : C → Reading) (post : MutBor C → Result (Unit
   of_kind e = m.kind ∙ e
 
   closes_before : (g : ContentForm) → c.kind ≡ g → c.state ≡ Open → ClosesBefore g c.mode c.owed k.octets (h.holds.close ++ d.stream.rest)
-  closes_before octets e o = absurd (form e)
+  closes_before Octets e o = absurd (form e)
   closes_before (values kind.Definite) e o =
       let u = used_up (values kind.Definite) (of_kind e) (λ z. cc) o e in
       let w : Falls c.owed (length (k.octets ++ h.holds.close)) (Some 0) = subst (λ z. Falls c.owed (length (k.octets ++ h.holds.close)) z) u.1 fell in
@@ -381,12 +375,12 @@ deep_usable c d g = g.were.usable (not_none g.calls g.last)
 pub begins_deep : (c d : Reading) → GoesDeep c d → BeginsDeep c
 begins_deep c d g = record { usable = (deep_usable c d g).0; some = (deep_usable c d g).1; leads = leads_deep c d g }
 
-pub one_refused : {X : Type 0} (c d : Reading) (e : DecodeError X) → RefusesOne cause_of c e d → Refuses cause_of any HasNoValue BeginsDeep c e d
-one_refused c d e (skipping.RefusesOne.by_walk (failed s a)) = failed s a
-one_refused c d e (skipping.RefusesOne.by_walk (source s f)) = source s f
-one_refused c d e (skipping.RefusesOne.by_walk (nothing n a)) = nothing n.none a
-one_refused c d e (skipping.RefusesOne.by_walk (memory s n)) = absurd n
-one_refused c d e (skipping.RefusesOne.by_depth g m) = memory m (begins_deep c d g)
+pub one_refused : {X : Type 0} (c d : Reading) (e : DecodeError X) → RefusesOne cause_of c e d
+    → Refuses cause_of any HasNoValue ((cause_of e ≡ of_memory) × BeginsDeep c) c e d
+one_refused c d e (failed s a) = failed s a
+one_refused c d e (source s f) = source s f
+one_refused c d e (nothing n a) = nothing n.none a
+one_refused c d e (otherwise g) = otherwise (g.0, begins_deep c d g.1)
 
 leads_of : (c i : Reading) → IsCaptureOf c i → LeadDeep i.mode i.stream.rest → LeadDeep c.mode c.stream.rest
 leads_of c i h x = subst (λ m. LeadDeep m c.stream.rest) h.mode (subst (LeadDeep i.mode) h.rest x)
@@ -415,7 +409,7 @@ none_fell (Some m) (Some n) k e f = (let z : m ≡ 0 = some_of m 0 e in (omega a
 
 -- of octets that are used up none is passed, and they stay so
 none_passed : (f : ContentForm) (o p : Option ℕ) (w v x : List ℕ) → IsUsedUp f o w → w ≡ v ++ x → Falls o (length v) p → (length v ≡ 0) × IsUsedUp f p x
-none_passed octets o p w v x u e f = none_fell o p (length v) u f
+none_passed Octets o p w v x u e f = none_fell o p (length v) u f
 none_passed (values kind.Definite) o p w v x u e f = none_fell o p (length v) u f
 none_passed (values kind.Indefinite) o p w v x u e f = absurd u
 none_passed (values kind.Unbounded) o p w v x u e f = (let z = both_empty v x (sym e ∙ u) in (ap length z, ap (λ y. y ++ x) (sym z) ∙ sym e ∙ u))
@@ -488,28 +482,35 @@ all_deep c i h b =
       });
     }
 
-others_left : {X : Type 0} (e : DecodeError X) (i k : Reading) → i.kind ≢ Octets → i.state ≡ Open → walking.RefusesValues cause_of i e k
-    → Refuses cause_of any HasOthers MetDeep i e k
-others_left e i k form o (walking.RefusesValues.failed f a) = failed f a
-others_left e i k form o (walking.RefusesValues.source s f) = source s f
-others_left e i k form o (walking.RefusesValues.broken x n a) = nothing (record { usable = o; none = n }) a
-others_left e i k form o (walking.RefusesValues.short x n a) = absurd (form x)
+others_left : {X : Type 0} (e : DecodeError X) (i k : Reading) → i.kind ≢ Octets → i.state ≡ Open → RefusesValues cause_of i e k
+    → Refuses cause_of any HasOthers ((cause_of e ≡ of_memory) × MetDeep i) i e k
+others_left e i k form o (failed f a) = failed f a
+others_left e i k form o (source s f) = source s f
+others_left e i k form o (nothing n a) = nothing (record { usable = o; none = n.1 }) a
+others_left e i k form o (otherwise x) = absurd (form x.0)
 
-loop_refused : {X : Type 0} (e : DecodeError X) (i j k : Reading) → i.kind ≢ Octets → Walks i j → Refuses cause_of any HasNoNext (λ _. ⊥) j e k
-    → Refuses cause_of any HasOthers MetDeep i e k
+loop_refused : {X : Type 0} (e : DecodeError X) (i j k : Reading) → i.kind ≢ Octets → Walks i j → Refuses cause_of any HasNoNext ⊥ j e k
+    → Refuses cause_of any HasOthers ((cause_of e ≡ of_memory) × MetDeep i) i e k
 loop_refused e i j k form w (failed f a) = failed (w.failed f) a
 loop_refused e i j k form w (source s f) = source s (grew_from _ _ _ (moves_faults i j w.moves) f)
 loop_refused e i j k form w (nothing n a) = others_left e i k form (still_open i j w n.usable) (walks_refused cause_of e i j k form w (nothing n a))
-loop_refused e i j k form w (memory s n) = absurd n
+loop_refused e i j k form w (otherwise n) = absurd n
 
 pub loop_refused_one : {X : Type 0} (e : DecodeError X) (i j k : Reading) → i.kind ≢ Octets → Walks i j → RefusesOne cause_of j e k
-    → Refuses cause_of any HasOthers MetDeep i e k
-loop_refused_one e i j k form w (skipping.RefusesOne.by_walk r) = loop_refused e i j k form w r
-loop_refused_one e i j k form w (skipping.RefusesOne.by_depth g m) = memory m (record { form = form; at = j; left = k; walks = w; deep = g })
+    → Refuses cause_of any HasOthers ((cause_of e ≡ of_memory) × MetDeep i) i e k
+loop_refused_one e i j k form w (otherwise g) = otherwise (g.0, record { form = form; at = j; left = k; walks = w; deep = g.1 })
+loop_refused_one e i j k form w (failed f a) = loop_refused e i j k form w (failed f a)
+loop_refused_one e i j k form w (source s f) = loop_refused e i j k form w (source s f)
+loop_refused_one e i j k form w (nothing n a) = loop_refused e i j k form w (nothing n a)
 
 -- the loop answers the error that it met
 pub pass_refused : {T X : Type 0} (c d : Reading) (r : Result T (DecodeError X)) (e : DecodeError X) → IsErrAnd r (λ x. x ≡ e)
-    → Refuses cause_of any HasOthers MetDeep c e d → d.marked ≡ c.marked → PassesBy PassesToEnd HasOthers MetDeep c r d
+    → Refuses cause_of any HasOthers ((cause_of e ≡ of_memory) × MetDeep c) c e d → d.marked ≡ c.marked → PassesBy PassesToEnd HasOthers MetDeep c r d
 pass_refused c d (Ok x) e h a g = absurd h
 pass_refused c d (Err x) e h a g =
-    record { passed = tt; no_fault = tt; refused = subst (λ y. Refuses cause_of any HasOthers MetDeep c y d) (sym h) a; marked = g }
+    record {
+      passed = tt;
+      no_fault = tt;
+      refused = subst (λ y. Refuses cause_of any HasOthers ((cause_of y ≡ of_memory) × MetDeep c) c y d) (sym h) a;
+      marked = g;
+    }

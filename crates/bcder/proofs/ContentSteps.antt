@@ -15,10 +15,9 @@ use Rattle.bcder.specs.declared.decode.stop.Stop.TheVariants as stop
 use Rattle.bcder.specs.x690.Identifier.{Tag, AreOctets}
 use Rattle.bcder.specs.x690.Encoding.{Header}
 use Rattle.bcder.specs.calls.Stream.{Stream, IsSound, Grew, past, limited}
-use Rattle.bcder.specs.calls.Content.{NothingThere, Reading, ContentForm, octets, Octets, any, Enters, Moves, Advances, FitsOwed, IsDone}
-use Rattle.bcder.specs.calls.Calls.{IsFormOf, Answered, AnswersDone, RefusesContent, by_closure, RanOver, TakesContent, RefusesValue, popped}
+use Rattle.bcder.specs.calls.Content.{NothingThere, Reading, ContentForm, Octets, any, Enters, Moves, Advances, FitsOwed, IsDone}
+use Rattle.bcder.specs.calls.Calls.{IsFormOf, Answered, AnswersDone, RefusesContent, by_closure, RanOver, TakesContent, RefusesFront, popped}
 use Rattle.bcder.specs.steps.WalkSteps.{WalksBy, itself, walked}
-use Rattle.bcder.specs.calls.Walking as walking
 use Rattle.bcder.specs.laws.Limits.{limited_sound}
 use Rattle.bcder.specs.laws.Moved.{untouched_is_moved, moved_keeps_kind}
 use Rattle.bcder.proofs.Moving.{moves_still, moves_octets}
@@ -27,8 +26,9 @@ use Rattle.bcder.proofs.Entering.{Within}
 use Rattle.bcder.proofs.WalkSteps.{done_here}
 use Rattle.bcder.proofs.WalkCalls.{refuses_walk}
 use Rattle.bcder.proofs.Taking.{value_refused}
+use Rattle.bcder.specs.calls.Refusals as refusals
 use Rattle.bcder.specs.calls.Refusals.{Refuses}
-use Rattle.bcder.specs.calls.Walking.{HasNoNext}
+use Rattle.bcder.specs.calls.Walking.{HasNoNext, RefusesValues}
 use Rattle.bcder.proofs.Inner.{layer_is, layers_eq, takes_definite, encodes_primitive}
 
 -- a borrow of content
@@ -74,7 +74,7 @@ module _ {T E : Type 0} (why : E → Cause ContentError) where
   always P (Ok x) p = p
   always P (Err x) p = tt
 
-  pub ran_values : (i j : Reading) (r : Result T E) → Moves i j → j.marked ≡ i.marked → OnOk r (IsDone j) → IfErr r (λ e. walking.RefusesValues why i e j)
+  pub ran_values : (i j : Reading) (r : Result T E) → Moves i j → j.marked ≡ i.marked → OnOk r (IsDone j) → IfErr r (λ e. RefusesValues why i e j)
       → (s s' : Stream) (o o' : Option ℕ) (f : ContentForm) (m : Mode) (t : Tag) → i.stream ≡ s → i.owed ≡ o → i.kind ≡ f → i.state ≡ Open → i.mode ≡ m
       → i.marked ≡ false → j.stream ≡ s' → j.owed ≡ o' → RanOver why itself (walked why) s o f m t r false s' o'
   ran_values i j r mv mk d h s s' o o' f m t is io ik it im ia js jo = ran_walked i j r
@@ -82,12 +82,13 @@ module _ {T E : Type 0} (why : E → Cause ContentError) where
 
 -- ---- why a step was refused
 
-pub step_refused : {T E : Type 0} (why : E → Cause ContentError) (c d : Reading) (e : E) → Within c → RefusesValue why itself (walked {T = T} why) any c e d
-    → Refuses why any HasNoNext (λ _. ⊥) c e d
+pub step_refused : {T E : Type 0} (why : E → Cause ContentError) (c d : Reading) (e : E) → Within c
+    → Refuses why any (NothingThere any) (RefusesFront why itself (walked {T = T} why) any c e d) c e d
+    → Refuses why any HasNoNext ⊥ c e d
 step_refused {T} {E} why c d e w h = (let r : Result T E = Err e in refuses_walk why itself (walked {T = T} why) (λ t p r q x. x) c d r w h)
 
-pub next_refused : {E : Type 0} (why : E → Cause ContentError) (c d : Reading) (e : E) → Within c → Refuses why any (NothingThere any) (λ _. ⊥) c e d
-    → Refuses why any HasNoNext (λ _. ⊥) c e d
+pub next_refused : {E : Type 0} (why : E → Cause ContentError) (c d : Reading) (e : E) → Within c → Refuses why any (NothingThere any) ⊥ c e d
+    → Refuses why any HasNoNext ⊥ c e d
 next_refused why c d e w h = step_refused {T = ℕ} why c d e w (value_refused why itself (walked {T = ℕ} why) any c e d h)
 
 pub entered_shorter : (c : Reading) (h : Header) (d : Reading) → Enters c h d → length d.stream.rest + 2 ≤ length c.stream.rest
@@ -105,7 +106,7 @@ stop_reason A B stop.NoMemory none = absurd none
 
 module _ (m : Mode) (name : GName) where
   pub inside : Stream → Option ℕ → Reading
-  inside s o = record { stream = limited o s; owed = o; kind = octets; state = Open; mode = m; marked = false; name = name }
+  inside s o = record { stream = limited o s; owed = o; kind = Octets; state = Open; mode = m; marked = false; name = name }
 
   skipped_advances : (n : ℕ) (s s' : Stream) → n ≤ length s.rest → s'.rest ≡ drop n s.rest → s'.faults ≡ s.faults → s'.kept ≡ s.kept
       → Advances (inside s (Some n)) (inside s' (Some 0)) (take n s.rest)
@@ -141,16 +142,19 @@ module _ (m : Mode) (name : GName) where
     pub walks_stopped : (e : E) (n : ℕ) (s s' : Stream) → s'.rest ≡ s.rest → s.faults ≤ s'.faults → s'.kept ≡ s.kept → (why e ≡ of_source)
         × Grew s.faults s'.faults ⊎ (length s.rest < n) × IsOfContent (why e) → WalksBy why {T = T} (inside s (Some n)) (Err e) (inside s' (Some n))
     unfolding inside
-    walks_stopped e n s s' r f k (inl g) = record { moves = asked_again n s s' r f k; marked = tt; done = tt; refused = walking.RefusesValues.source g.0 g.1 }
+    walks_stopped e n s s' r f k (inl g) = record { moves = asked_again n s s' r f k; marked = tt; done = tt; refused = refusals.Refuses.source g.0 g.1 }
     walks_stopped e n s s' r f k (inr h) = record {
       moves = asked_again n s s' r f k;
       marked = tt;
       done = tt;
-      refused = walking.RefusesValues.short refl
-          (record {
-            short = λ q z. let w : length s.rest < n = h.0 in let y : length (take n s.rest) ≤ length s.rest = grind (arith, common_steps) in
-                let v : n ≡ q = (let u : ◌≡◌ {A = Option ℕ} (Some n) (Some q) = z in cc) in omega arith;
-          }) h.1;
+      refused = refusals.Refuses.otherwise (
+        refl,
+        record {
+          short = λ q z. let w : length s.rest < n = h.0 in let y : length (take n s.rest) ≤ length s.rest = grind (arith, common_steps) in
+              let v : n ≡ q = (let u : ◌≡◌ {A = Option ℕ} (Some n) (Some q) = z in cc) in omega arith;
+        },
+        h.1,
+      );
     }
 
 pub or_none : (a b : Bool) → b ≡ a → b ≡ (a || false)

@@ -29,7 +29,7 @@ use Rattle.bcder.specs.laws.Moved.{Falls-refl}
 use Rattle.bcder.proofs.Moving.{moves_failed, moves_marker, moves_still, open_not_ended}
 use Rattle.bcder.proofs.Headers.{no_header_unread, no_header_empty, header_no_marker, no_marker_unread, no_marker_empty, no_other_front, no_other_end}
 use Rattle.bcder.proofs.Headers.{no_other_unread, other_of, front_of_read, marker_of_end, end_no_header, header_no_end, no_header_long, size_is}
-use Rattle.bcder.specs.calls.Refusals.{Refuses, failed, source, nothing, memory}
+use Rattle.bcder.specs.calls.Refusals.{Refuses, failed, source, nothing, otherwise}
 use Rattle.bcder.proofs.Naming.{long_value}
 
 -- ---- an advance of a limited source
@@ -380,11 +380,11 @@ module _ (c d : Reading) (s : Resembles c d) (o : c.state ≡ Open) where
 
 -- ---- why content is not left at its end
 
-pub end_refused : {E : Type 0} (why : E → Cause ContentError) (c d : Reading) (e : E) → Refuses why any (NothingThere any) (λ _. ⊥) c e d → RefusesEnd why c e d
+pub end_refused : {E : Type 0} (why : E → Cause ContentError) (c d : Reading) (e : E) → Refuses why any (NothingThere any) ⊥ c e d → RefusesEnd why c e d
 end_refused why c d e (failed s o) = left_failed s o
 end_refused why c d e (source k g) = source_failed k g
 end_refused why c d e (nothing n o) = left_open (record { none = n.absent }) o.refused
-end_refused why c d e (memory k n) = absurd n
+end_refused why c d e (otherwise n) = absurd n
 
 -- ---- whether the octets that a length promises are within what is owed
 

@@ -10,8 +10,9 @@ use Rattle.bcder.specs.x690.Tree.{Tree}
 use Rattle.bcder.specs.x690.Preorder.{Heading, preorder}
 use Rattle.bcder.specs.calls.Stream.{Grew}
 use Rattle.bcder.specs.calls.Captured.{Kept}
-use Rattle.bcder.specs.calls.Content.{any, Reading, Octets, EndsBefore, EndsAt}
-use Rattle.bcder.specs.calls.Walking.{HasNoNext, HasNoValue, HasValue, PassesValue, PassedBy, HasValues, AllBy}
+use Rattle.bcder.specs.calls.Content.{any, Reading, Octets, EndsBefore}
+use Rattle.bcder.specs.calls.Walking.{HasNoNext, HasNoValue, HasValue, PassesValue, HasValues, AllBy}
+use Rattle.bcder.specs.calls.Takes.{NextBy}
 use Rattle.bcder.specs.calls.Walking as walking
 use Rattle.bcder.specs.calls.Skipping.{Steps, RefusesSkip, SkippedBy, SkippedValueBy, RefusesOne, RefusesSkipAll}
 use Rattle.bcder.specs.calls.Skipping as skipping
@@ -20,7 +21,7 @@ use Rattle.bcder.specs.calls.CapturingValues.{HasValuesOrDeep, CapturesValue, Ca
 use Rattle.bcder.specs.laws.Exactly.{FoundMemory, AnswersNext, AnswersAll, IsShallow, MaySkip, AnswersSkip, AnswersCapture}
 use Rattle.bcder.proofs.Moving.{open_not_ended, open_not_failed}
 use Rattle.bcder.proofs.Entering.{Within}
-use Rattle.bcder.specs.calls.Refusals.{Refuses, failed, source, nothing, memory}
+use Rattle.bcder.specs.calls.Refusals.{Refuses, failed, source, nothing, otherwise}
 use Rattle.bcder.proofs.WalkSteps.{value_not_at_end, value_once}
 
 failed_end : (c : Reading) (after : List ℕ) → EndsBefore c after → c.state ≡ Failed → ⊥
@@ -34,20 +35,20 @@ module _ (c d : Reading) (within : Within c) (sound : Grew c.stream.faults d.str
   -- ---- passing
 
   module _ {X : Type 0} (e : DecodeError X) where
-    no_refused_value : (t : Tree) (w after : List ℕ) → HasValue c t w after → Refuses cause_of any HasNoNext (λ _. ⊥) c e d → ⊥
+    no_refused_value : (t : Tree) (w after : List ℕ) → HasValue c t w after → Refuses cause_of any HasNoNext ⊥ c e d → ⊥
     no_refused_value t w after h (failed s a) = open_not_failed c.state h.usable s
     no_refused_value t w after h (source k s) = sound s
     no_refused_value t w after h (nothing n a) = n.none.none t w after h
-    no_refused_value t w after h (memory s n) = absurd n
+    no_refused_value t w after h (otherwise n) = absurd n
 
-    no_refused_end : (after : List ℕ) → EndsBefore c after → Refuses cause_of any HasNoNext (λ _. ⊥) c e d → ⊥
+    no_refused_end : (after : List ℕ) → EndsBefore c after → Refuses cause_of any HasNoNext ⊥ c e d → ⊥
     no_refused_end after h (failed s a) = failed_end c after h s
     no_refused_end after h (source k s) = sound s
     no_refused_end after h (nothing n a) = n.some.none after h
-    no_refused_end after h (memory s n) = absurd n
+    no_refused_end after h (otherwise n) = absurd n
 
   pub answers_next : {T X : Type 0} (r : Result (Option T) (DecodeError X)) → IfOk r (λ o. IfSome o (λ _. PassesValue c d))
-      → IfOk r (λ o. IfNone o (EndsAt c d)) → IfErr r (λ e. Refuses cause_of any HasNoNext (λ _. ⊥) c e d) → AnswersNext c r d
+      → IfOk r (λ o. IfNone o (EndsBefore c d.stream.rest)) → IfErr r (λ e. Refuses cause_of any HasNoNext ⊥ c e d) → AnswersNext c r d
   answers_next (Ok None) a b n =
       record { found = λ t v after h. absurd (let z = value_not_at_end c within t v after h in z.none d.stream.rest b); ended = λ after h. refl }
   answers_next (Ok (Some x)) a b n = record {
@@ -57,16 +58,22 @@ module _ (c d : Reading) (within : Within c) (sound : Grew c.stream.faults d.str
   answers_next (Err e) a b n =
       record { found = λ t v after h. absurd (no_refused_value e t v after h n); ended = λ after h. absurd (no_refused_end e after h n) }
 
-  pub walked_exactly : {T X : Type 0} (r : Result (Option T) (DecodeError X)) → PassedBy (Refuses cause_of any HasNoNext (λ _. ⊥)) c r d → AnswersNext c r d
-  walked_exactly r p = answers_next r p.value p.end p.refused
+  pub walked_exactly : {T X : Type 0} (r : Result (Option T) (DecodeError X)) → NextBy any (λ i _ j. PassesValue i j) (Refuses cause_of any HasNoNext ⊥) c r d
+      → AnswersNext c r d
+  walked_exactly (Ok None) p = answers_next (Ok None) tt p.none.missing.0 tt
+  walked_exactly (Ok (Some x)) p = answers_next (Ok (Some x)) p.value tt tt
+  walked_exactly (Err e) p = answers_next (Err e) tt tt p.refused
 
   -- if memory was found, refusals are those of a walk
-  walk_of_one : {X : Type 0} (e : DecodeError X) → (cause_of e ≡ of_memory → ⊥) → RefusesOne cause_of c e d → Refuses cause_of any HasNoNext (λ _. ⊥) c e d
-  walk_of_one e n (skipping.RefusesOne.by_walk r) = r
-  walk_of_one e n (skipping.RefusesOne.by_depth g j) = absurd (n j)
+  walk_of_one : {X : Type 0} (e : DecodeError X) → (cause_of e ≡ of_memory → ⊥) → RefusesOne cause_of c e d → Refuses cause_of any HasNoNext ⊥ c e d
+  walk_of_one e n (failed s a) = failed s a
+  walk_of_one e n (source s f) = source s f
+  walk_of_one e n (nothing h a) = nothing h a
+  walk_of_one e n (otherwise g) = absurd (n g.0)
 
-  pub passed_exactly : {T X : Type 0} (r : Result (Option T) (DecodeError X)) → PassedBy (RefusesOne cause_of) c r d → FoundMemory r → AnswersNext c r d
-  passed_exactly (Ok None) s m = answers_next (Ok None) tt s.end tt
+  pub passed_exactly : {T X : Type 0} (r : Result (Option T) (DecodeError X))
+      → NextBy any (λ i _ j. PassesValue i j) (RefusesOne cause_of) c r d → FoundMemory r → AnswersNext c r d
+  passed_exactly (Ok None) s m = answers_next (Ok None) tt s.none.missing.0 tt
   passed_exactly (Ok (Some x)) s m = answers_next (Ok (Some x)) s.value tt tt
   passed_exactly (Err e) s m = answers_next (Err e) tt tt (walk_of_one e m s.refused)
 
@@ -98,16 +105,16 @@ module _ (c d : Reading) (within : Within c) (sound : Grew c.stream.faults d.str
 
     pub skipped_exactly : {T : Type 0} (r : Result (Option T) (DecodeError X)) → SkippedBy cause_of step c f r g d → AnswersSkip step c f r d
     skipped_exactly (Ok None) s = record {
-      found = λ t w after h m. absurd (let z = value_not_at_end c within t w after h in z.none d.stream.rest s.end);
+      found = λ t w after h m. absurd (let z = value_not_at_end c within t w after h in z.none d.stream.rest s.next.none.missing.0);
       ended = λ after h. refl;
     }
     skipped_exactly (Ok (Some x)) s = record {
-      found = λ t w after h m. (refl, (let y = value_once c s.value.passes.tree t s.value.passes.value w d.stream.rest after s.value.passes.has h in y.rest));
-      ended = λ after h. absurd (let z = value_not_at_end c within s.value.passes.tree s.value.passes.value d.stream.rest s.value.passes.has in z.none after h);
+      found = λ t w after h m. (refl, (let p = s.next.value.passes in let y = value_once c p.tree t p.value w d.stream.rest after p.has h in y.rest));
+      ended = λ after h. absurd (let p = s.next.value.passes in let z = value_not_at_end c within p.tree p.value d.stream.rest p.has in z.none after h);
     }
     skipped_exactly (Err e) s = record {
-      found = λ t w after h m. absurd (no_refused_skip e t w after h m.0 m.1 s.refused);
-      ended = λ after h. absurd (no_skip_at_end e after h s.refused);
+      found = λ t w after h m. absurd (no_refused_skip e t w after h m.0 m.1 s.next.refused);
+      ended = λ after h. absurd (no_skip_at_end e after h s.next.refused);
     }
 
     pub value_exactly : {T : Type 0} (r : Result T (DecodeError X)) → SkippedValueBy step c f r g d → (t : Tree) (w after : List ℕ)
@@ -124,31 +131,31 @@ module _ (c d : Reading) (within : Within c) (sound : Grew c.stream.faults d.str
   module _ {X : Type 0} where
     capture_found : (r : Result (Option Kept) (DecodeError X)) → CapturesNext c r d → (t : Tree) (v after : List ℕ) → HasValue c t v after → FoundMemory r
         → IsOkAnd r (λ o. IsSomeAnd o (λ k. k.octets ≡ v))
-    capture_found (Ok (Some k)) h t v after z m = (let s = value_once c h.captured.tree t k.octets v d.stream.rest after h.captured.has z in s.front)
-    capture_found (Ok None) h t v after z m = absurd ((value_not_at_end c within t v after z).none d.stream.rest h.end)
+    capture_found (Ok (Some k)) h t v after z m = (let s = value_once c h.value.tree t k.octets v d.stream.rest after h.value.has z in s.front)
+    capture_found (Ok None) h t v after z m = absurd ((value_not_at_end c within t v after z).none d.stream.rest h.none.missing.0)
     capture_found (Err e) h t v after z m = absurd (refuted h.refused)
       where
-        refuted : Refuses cause_of any HasNoNext HasValueOrDeep c e d → ⊥
+        refuted : Refuses cause_of any HasNoNext ((cause_of e ≡ of_memory) × HasValueOrDeep c) c e d → ⊥
         refuted (failed x o) = open_not_failed c.state z.usable x
         refuted (source x y) = sound y
         refuted (nothing n o) = n.none.none t v after z
-        refuted (memory x n) = m x
+        refuted (otherwise n) = m n.0
 
     capture_ended : (r : Result (Option Kept) (DecodeError X)) → CapturesNext c r d → (after : List ℕ) → EndsBefore c after
         → IsOkAnd r (λ o. IsTrue (is_none o))
     capture_ended (Ok None) h after z = refl
-    capture_ended (Ok (Some k)) h after z = absurd ((value_not_at_end c within h.captured.tree k.octets d.stream.rest h.captured.has).none after z)
+    capture_ended (Ok (Some k)) h after z = absurd ((value_not_at_end c within h.value.tree k.octets d.stream.rest h.value.has).none after z)
     capture_ended (Err e) h after z = absurd (refuted h.refused)
       where
         met : HasValueOrDeep c → ⊥
         met (of_value t v x y) = (value_not_at_end c within t v x y).none after z
         met (of_depth b) = b.some.none after z
 
-        refuted : Refuses cause_of any HasNoNext HasValueOrDeep c e d → ⊥
+        refuted : Refuses cause_of any HasNoNext ((cause_of e ≡ of_memory) × HasValueOrDeep c) c e d → ⊥
         refuted (failed x o) = failed_end c after z x
         refuted (source x y) = sound y
         refuted (nothing n o) = n.some.none after z
-        refuted (memory x n) = met n
+        refuted (otherwise n) = met n.1
 
     pub next_exactly : (r : Result (Option Kept) (DecodeError X)) → CapturesNext c r d → AnswersCapture c r
     next_exactly r h = record { found = capture_found r h; ended = capture_ended r h }
@@ -161,11 +168,11 @@ module _ {X : Type 0} (c d : Reading) (sound : Grew c.stream.faults d.stream.fau
   one_exactly (Ok k) h m t w after v = (let s = value_once c h.captured.tree t k.octets w d.stream.rest after h.captured.has v in s.front)
   one_exactly (Err e) h m t w after v = absurd (refuted h.refused)
     where
-      refuted : Refuses cause_of any HasNoValue HasValueOrDeep c e d → ⊥
+      refuted : Refuses cause_of any HasNoValue ((cause_of e ≡ of_memory) × HasValueOrDeep c) c e d → ⊥
       refuted (failed s o) = open_not_failed c.state v.usable s
       refuted (source k x) = sound x
       refuted (nothing n o) = n.none t w after v
-      refuted (memory k x) = m k
+      refuted (otherwise x) = m x.0
 
   -- ---- all values
 
@@ -175,10 +182,10 @@ module _ {X : Type 0} (c d : Reading) (sound : Grew c.stream.faults d.stream.fau
   all_exactly (Err e) s m o h = absurd (go s.refused)
     where
       go : RefusesSkipAll cause_of c e d → ⊥
-      go (skipping.RefusesSkipAll.by_values (walking.RefusesValues.failed a b)) = open_not_failed c.state o a
-      go (skipping.RefusesSkipAll.by_values (walking.RefusesValues.source a b)) = sound b
-      go (skipping.RefusesSkipAll.by_values (walking.RefusesValues.broken a b z)) = b h
-      go (skipping.RefusesSkipAll.by_values (walking.RefusesValues.short a b z)) = octets_no_values c a h
+      go (skipping.RefusesSkipAll.by_values (failed a b)) = open_not_failed c.state o a
+      go (skipping.RefusesSkipAll.by_values (source a b)) = sound b
+      go (skipping.RefusesSkipAll.by_values (nothing n z)) = n.1 h
+      go (skipping.RefusesSkipAll.by_values (otherwise x)) = octets_no_values c x.0 h
       go (skipping.RefusesSkipAll.by_depth j w g z) = m z
 
   pub captures_all_exactly : (r : Result Kept (DecodeError X)) → CapturesBy CapturesValues HasOthers HasValuesOrDeep c r d → FoundMemory r
@@ -186,14 +193,14 @@ module _ {X : Type 0} (c d : Reading) (sound : Grew c.stream.faults d.stream.fau
   captures_all_exactly (Ok k) h m = (λ v o. refl, λ e. refl)
   captures_all_exactly (Err e) h m = (λ v o. absurd (refuted v o h.refused), λ s. absurd (not_ended s h.refused))
     where
-      refuted : HasValues c → c.state ≡ Open → Refuses cause_of any HasOthers HasValuesOrDeep c e d → ⊥
+      refuted : HasValues c → c.state ≡ Open → Refuses cause_of any HasOthers ((cause_of e ≡ of_memory) × HasValuesOrDeep c) c e d → ⊥
       refuted v o (failed s a) = open_not_failed c.state o s
       refuted v o (source k x) = sound x
       refuted v o (nothing n a) = n.none v
-      refuted v o (memory k x) = m k
+      refuted v o (otherwise x) = m x.0
 
-      not_ended : c.state ≡ Ended → Refuses cause_of any HasOthers HasValuesOrDeep c e d → ⊥
+      not_ended : c.state ≡ Ended → Refuses cause_of any HasOthers ((cause_of e ≡ of_memory) × HasValuesOrDeep c) c e d → ⊥
       not_ended s (failed x a) = (let y : Ended ≡ Failed = sym s ∙ x in cc)
       not_ended s (source k x) = sound x
       not_ended s (nothing n a) = open_not_ended c.state n.usable s
-      not_ended s (memory k x) = m k
+      not_ended s (otherwise x) = m x.0

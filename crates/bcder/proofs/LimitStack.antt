@@ -22,11 +22,11 @@ use Rattle.bcder.specs.steps.Growing.{AreOpen, grown}
 use Rattle.bcder.specs.steps.Reading.{read_header, read_end, read_contents, at_end, read_list, read_tree}
 use Rattle.bcder.specs.calls.Stream.{Layer, Stream, cut, past, limit_left}
 use Rattle.bcder.specs.calls.Content.{Reading, values, Octets, Falls, FitsOwed, ContentForm, HasMarker, of_octets}
-use Rattle.bcder.specs.calls.Content.{of_definite, of_indefinite, of_unbounded, EndsAt, NotAtEnd}
+use Rattle.bcder.specs.calls.Content.{of_definite, of_indefinite, of_unbounded, EndsBefore, NotAtEnd}
 use Rattle.bcder.specs.x690.Length.{IsEndOfContents}
 use Rattle.bcder.specs.calls.Calls.{popped}
 use Rattle.bcder.specs.steps.Inside.{limit_inside}
-use Rattle.bcder.specs.calls.Skipping.{IsEndOf, HeaderStands, HeadersStand}
+use Rattle.bcder.specs.calls.Skipping.{HeaderStands, HeadersStand}
 use Rattle.bcder.specs.laws.Complete.{header_complete, header_size}
 use Rattle.bcder.specs.laws.Identifiers.{BeginsValue, BeginsValue-identifier}
 use Rattle.bcder.specs.laws.Lengths.{read_end-complete}
@@ -112,6 +112,10 @@ pub passes_nothing : (s t : Stream) → t.rest ≡ s.rest → t.kept ≡ s.kept 
 passes_nothing s t e k = record { rest = sym e; kept = k }
 
 -- ---- where headers stand
+
+-- w is some octets, and then v
+abbrev IsEndOf : List ℕ → List ℕ → Type 0
+IsEndOf v w = (gap : List ℕ) × (w ≡ gap ++ v)
 
 later : (w b c : List ℕ) → IsEndOf b w → IsEndOf c b → IsEndOf c w
 later w b c g h = (g.0 ++ h.0, g.1 ∙ ap (λ l. g.0 ++ l) h.1 ∙ sym (append_assoc g.0 h.0 c))
@@ -474,7 +478,7 @@ module _ (mode : Mode) (es : List Entry) (t v : Stream) (p q : Option ℕ) (w : 
 
   -- the end of content, as content tells it
   pub end_left : (c : Reading) (d : Reading) (k : Kind) (top : Entry) → c.kind ≡ values k → TopIs (top ∷ es) k → c.state ≡ Open → c.mode ≡ mode → c.owed ≡ p
-      → c.stream.rest ≡ cut p t.rest → d.stream.rest ≡ cut q v.rest → AreOctets (cut p t.rest) → EndsAt c d
+      → c.stream.rest ≡ cut p t.rest → d.stream.rest ≡ cut q v.rest → AreOctets (cut p t.rest) → EndsBefore c d.stream.rest
       → (remain mode (top ∷ es) p t.rest ≡ remain mode es (restored top q) v.rest) × (unwound (top ∷ es) q ≡ unwound es (restored top q))
   end_left c d k top ck ti cs cm co cr dr a (inl x) = absurd (open_not_ended c.state cs x)
   end_left c d k top ck ti cs cm co cr dr a (inr (s, of_octets x o)) = absurd (let y : ◌≡◌ {A = ContentForm} (values k) Octets = sym ck ∙ x in cc)
@@ -496,7 +500,7 @@ pub left : (mode : Mode) (h : Header) (s : Stream) (o : Option ℕ) (calls : Lis
     (c d : Reading) (k : Kind)
     → IsUnderWay mode h s o calls es t p → Passes t w v → Falls p (length w) q → past q v.rest ≡ past p t.rest
     → c.kind ≡ values k → TopIs es k → c.state ≡ Open → c.mode ≡ mode → c.owed ≡ p → c.stream.rest ≡ cut p t.rest → d.stream.rest ≡ cut q v.rest
-    → AreOctets (cut p t.rest) → EndsAt c d
+    → AreOctets (cut p t.rest) → EndsBefore c d.stream.rest
     → LeavesInnermost es q fs r → IsUnderWay mode h s o calls fs v r
 left mode h s o calls es fs t v p q r w c d k u g f l ck ti cs cm co cr dr a e x =
     let is : es ≡ x.top ∷ fs = x.is in

@@ -24,7 +24,7 @@ names_front asked c why n = record { refused = of_violation c why n; named = λ 
 
 -- no asked value comes next, nor a reason to answer that there is none
 pub nothing_violated : {E : Type 0} (why : E → Cause ContentError) (asked : Asked) (c d : Reading) (e : E) → NothingThere asked c → NamesViolation (why e) c
-    → Refuses why asked (NothingThere asked) (λ _. ⊥) c e d
+    → Refuses why asked (NothingThere asked) ⊥ c e d
 nothing_violated why asked c d e n o = refusals.Refuses.nothing n (names_front asked c (why e) o)
 
 pub behind_header : (asked : Asked) (c : Reading) (why : Cause ContentError) → IsOfContent why → (after : List ℕ) → HasHeader asked c after

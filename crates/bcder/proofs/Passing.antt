@@ -11,7 +11,8 @@ use Rattle.bcder.specs.x690.Tree.{Tree}
 use Rattle.bcder.specs.x690.Grammar.{IsOnly}
 use Rattle.bcder.specs.calls.Content.{any, Reading, Octets, Advances, Moves, Resembles, IsAtEnd, of_octets, of_definite}
 use Rattle.bcder.specs.calls.Content.{of_indefinite, of_unbounded, EndsBefore, NotAtEnd}
-use Rattle.bcder.specs.calls.Walking.{HasNoNext, PassesValue, PassedBy}
+use Rattle.bcder.specs.calls.Walking.{HasNoNext, PassesValue}
+use Rattle.bcder.specs.calls.Takes.{NextBy}
 use Rattle.bcder.specs.steps.Reading.{read_identifier, read_header}
 use Rattle.bcder.specs.steps.Entering.{GoesOn}
 use Rattle.bcder.specs.laws.Complete.{only_at_front}
@@ -81,11 +82,11 @@ looked_nothing c d s n = record {
 -- whatever a call refuses that went on from there
 module _ {E : Type 0} (c d e : Reading) (s : Resembles c d) (f : d.stream.faults ≡ c.stream.faults) (Refuses : Reading → E → Reading → Type 0)
     (refused : (x : E) → Refuses d x e → Refuses c x e) where
-  pub looked_by : {T : Type 0} (r : Result (Option T) E) → PassedBy Refuses d r e → PassedBy Refuses c r e
+  pub looked_by : {T : Type 0} (r : Result (Option T) E) → NextBy any (λ i _ j. PassesValue i j) Refuses d r e
+      → NextBy any (λ i _ j. PassesValue i j) Refuses c r e
   looked_by (Ok None) p = record {
     value = tt;
-    end = looked_ends c d e.stream.rest s p.end;
-    done = p.done;
+    none = record { missing = (looked_ends c d e.stream.rest s p.none.missing.0, p.none.missing.1); marked = p.marked ∙ s.marked; no_fault = p.no_fault ∙ f };
     no_fault = p.no_fault ∙ f;
     refused = tt;
     failed = tt;
@@ -94,8 +95,7 @@ module _ {E : Type 0} (c d e : Reading) (s : Resembles c d) (f : d.stream.faults
   }
   looked_by (Ok (Some x)) p = record {
     value = looked_passes c d e s p.value;
-    end = tt;
-    done = tt;
+    none = tt;
     no_fault = p.no_fault ∙ f;
     refused = tt;
     failed = tt;
@@ -104,8 +104,7 @@ module _ {E : Type 0} (c d e : Reading) (s : Resembles c d) (f : d.stream.faults
   }
   looked_by (Err x) p = record {
     value = tt;
-    end = tt;
-    done = tt;
+    none = tt;
     no_fault = tt;
     refused = refused x p.refused;
     failed = p.failed;
@@ -114,16 +113,16 @@ module _ {E : Type 0} (c d e : Reading) (s : Resembles c d) (f : d.stream.faults
   }
 
 module _ {E : Type 0} (why : E → Cause ContentError) (c d e : Reading) (s : Resembles c d) (f : d.stream.faults ≡ c.stream.faults) where
-  pub looked_refused : (x : E) → Refuses why any HasNoNext (λ _. ⊥) d x e → Refuses why any HasNoNext (λ _. ⊥) c x e
-  looked_refused x (refusals.Refuses.failed h o) = refusals.Refuses.failed (sym s.state ∙ h) o
-  looked_refused x (refusals.Refuses.source h g) = refusals.Refuses.source h (subst (λ z. Grew z e.stream.faults) f g)
-  looked_refused x (refusals.Refuses.nothing n o) = refusals.Refuses.nothing (looked_nothing c d s n) (front_named c d (looked_alike c d s) (why x) o)
-  looked_refused x (refusals.Refuses.memory h n) = absurd n
+  pub looked_refused : {A B : Type 0} → (A → B) → (x : E) → Refuses why any HasNoNext A d x e → Refuses why any HasNoNext B c x e
+  looked_refused o x (refusals.Refuses.failed h i) = refusals.Refuses.failed (sym s.state ∙ h) i
+  looked_refused o x (refusals.Refuses.source h g) = refusals.Refuses.source h (subst (λ z. Grew z e.stream.faults) f g)
+  looked_refused o x (refusals.Refuses.nothing n i) = refusals.Refuses.nothing (looked_nothing c d s n) (front_named c d (looked_alike c d s) (why x) i)
+  looked_refused o x (refusals.Refuses.otherwise n) = refusals.Refuses.otherwise (o n)
 
   -- a call that went on from there went on from the content itself
-  pub looked_next : {T : Type 0} (r : Result (Option T) E) → PassedBy (Refuses why any HasNoNext (λ _. ⊥)) d r e
-      → PassedBy (Refuses why any HasNoNext (λ _. ⊥)) c r e
-  looked_next r = looked_by c d e s f (Refuses why any HasNoNext (λ _. ⊥)) looked_refused r
+  pub looked_next : {T : Type 0} (r : Result (Option T) E) → NextBy any (λ i _ j. PassesValue i j) (Refuses why any HasNoNext ⊥) d r e
+      → NextBy any (λ i _ j. PassesValue i j) (Refuses why any HasNoNext ⊥) c r e
+  looked_next r = looked_by c d e s f (Refuses why any HasNoNext ⊥) (looked_refused (λ x. x)) r
 
 -- ---- content that begins with a header
 

@@ -2,17 +2,24 @@
 use Rattle.std.proofs.Common.{◌≡◌, ℕ, List, length, Err}
 use Rattle.bcder.specs.declared.decode.error.DecodeError.{DecodeError}
 use Rattle.bcder.specs.calls.Content.{Reading}
-use Rattle.bcder.specs.calls.Readers.{HasAll, RefusesTooFew, RefusesReading, Reads}
+use Rattle.bcder.specs.calls.Readers.{HasAll, AreNeverRefused, RefusesReading, Reads}
+
+as_refused : {X : Type 0} (Refuses : List ℕ → DecodeError X → Type 0) (c d : Reading) (e : DecodeError X) → RefusesReading AreNeverRefused c e d
+    → RefusesReading Refuses c e d
+as_refused Refuses c d e (RefusesReading.source s g) = RefusesReading.source s g
+as_refused Refuses c d e (RefusesReading.few s a n) = RefusesReading.few s a n
+as_refused Refuses c d e (RefusesReading.refused a f n) = absurd f
 
 pub refuses_missing : {T X : Type 0} (Means : List ℕ → T → Type 0) (Refuses : List ℕ → DecodeError X → Type 0) (c d : Reading) (e : DecodeError X)
-    → RefusesTooFew c e d → d.stream.rest ≡ c.stream.rest → d.owed ≡ c.owed → d.mode ≡ c.mode → d.marked ≡ c.marked → Reads Means Refuses c (Err e) d
+    → RefusesReading AreNeverRefused c e d → d.stream.rest ≡ c.stream.rest → d.owed ≡ c.owed
+    → d.mode ≡ c.mode → d.marked ≡ c.marked → Reads Means Refuses c (Err e) d
 refuses_missing Means Refuses c d e f r o m k = record {
   value = tt;
   all = tt;
   none_left = tt;
   none_owed = tt;
   no_fault = tt;
-  refused = RefusesReading.missing f;
+  refused = as_refused Refuses c d e f;
   kept = r;
   still_owed = o;
   mode = m;

@@ -4,7 +4,7 @@ use Rattle.std.specs.Prelude.{Result, Ok, Err}
 use Rattle.bcder.specs.declared.mode.Mode.{Mode}
 use Rattle.bcder.specs.declared.decode.error.DecodeError.{DecodeError}
 use Rattle.bcder.specs.x690.Identifier.{Tag}
-use Rattle.bcder.specs.calls.Content.{tagged, Reading}
+use Rattle.bcder.specs.calls.Content.{Reading}
 use Rattle.bcder.specs.x690.Tree.{Tree}
 use Rattle.bcder.specs.x690.Encoding.{IsEncoding}
 use Rattle.bcder.specs.calls.StringOctets.{StringOctets, octets_of, MeansString}
@@ -14,14 +14,13 @@ use Rattle.bcder.specs.calls.RestrictedString.{MeansRestricted}
 use Rattle.bcder.specs.calls.Meaning.{Encoded}
 use Rattle.bcder.specs.calls.StringMeaning.{StringMeans}
 use Rattle.bcder.specs.calls.TakenBack.{StandsIn}
-use Rattle.bcder.specs.calls.Valued.{HasNoTree, HasTagged, TakesTree, WantsMemoryFor, of_value, of_header}
+use Rattle.bcder.specs.calls.Valued.{HasTagged, TakesTree, WantsMemoryFor, of_value, of_header, RefusesTree}
 use Rattle.bcder.specs.calls.Valued.{TakesNextTree, TakesOneTree}
 use Rattle.bcder.specs.calls.WrittenStrings.{IsWrittenString}
 use Rattle.bcder.specs.calls.WrittenRestricted.{IsTakenRestricted, WrittenAsReadOf, OneRestricted}
 use Rattle.bcder.specs.laws.Complete.{only_at_front}
 use Rattle.bcder.proofs.OneString.{means_flat, one_string, one_string_encoding}
-use Rattle.bcder.specs.calls.Cause.{cause_of}
-use Rattle.bcder.specs.calls.Refusals.{Refuses, failed, source, nothing, memory}
+use Rattle.bcder.specs.calls.Refusals.{failed, source, nothing, otherwise}
 use Rattle.bcder.proofs.StringsBack.{string_taken, written_as_read}
 
 -- ---- taken as a string of the set, it is taken as an octet string
@@ -43,11 +42,11 @@ module _ (step : Step) (X : Type 0) (t : Tag) (mode : Mode) (w : List ℕ) (e : 
   wanted_there (of_header der a h f) = of_header der a h f
 
   refused_there : (f : DecodeError X) (d : Reading)
-      → Refuses cause_of (tagged t) (HasNoTree t (MeansRestricted step c.mode)) (WantsMemoryFor t (MeansRestricted step c.mode)) c f d
-      → Refuses cause_of (tagged t) (HasNoTree t (MeansString c.mode)) (WantsMemoryFor t (MeansString c.mode)) c f d
+      → RefusesTree t (MeansRestricted step c.mode) c f d
+      → RefusesTree t (MeansString c.mode) c f d
   refused_there f d (failed h i) = failed h i
   refused_there f d (source h g) = source h g
-  refused_there f d (memory h there) = memory h (wanted_there there)
+  refused_there f d (otherwise h) = otherwise (h.0, wanted_there h.1)
   refused_there f d (nothing b i) =
       nothing (record { usable = b.usable; value = λ v u rest x h m. b.value v u rest x h (m, accepted_there v u rest x h m); absent = b.absent }) i
 

@@ -26,7 +26,7 @@ use Rattle.bcder.specs.steps.Growing.{AreOpen}
 use Rattle.bcder.specs.x690.Preorder.{Heading, preorder, preorders}
 use Rattle.bcder.specs.steps.Reading.{read_contents, read_list}
 use Rattle.bcder.specs.calls.Stream.{IsSound, Layer, Stream, Grew, cut, past, limited}
-use Rattle.bcder.specs.calls.Content.{NothingThere, Reading, values, any, Falls, FitsOwed, Enters, EndsAt, Moves, NotAtEnd}
+use Rattle.bcder.specs.calls.Content.{NothingThere, Reading, values, any, Falls, FitsOwed, Enters, EndsBefore, Moves, NotAtEnd}
 use Rattle.bcder.specs.calls.Skipping.{Steps, Called}
 use Rattle.bcder.specs.steps.Stacked as stacked
 use Rattle.bcder.specs.laws.Complete.{header_size}
@@ -39,7 +39,7 @@ use Rattle.bcder.proofs.LimitStack.{calls_on, falls_unwound, source_passes, firs
 use Rattle.bcder.proofs.LimitStack.{met_broken, left, broken, nothing_more, nothing_whole, few_there}
 use Rattle.bcder.proofs.Unwinding.{counts_falls, unwound_indefinites}
 use Rattle.bcder.specs.steps.WalkSteps.{NoValue}
-use Rattle.bcder.specs.calls.Refusals.{Refuses, failed, source, nothing, memory}
+use Rattle.bcder.specs.calls.Refusals.{Refuses, failed, source, nothing, otherwise}
 
 -- the closure was called at a header and at headings after it, and these values are open, without a fault
 pub record Goes {F : Type 0} (step : Steps F ContentError) (mode : Mode) (h : Header) (s : Stream) (o : Option ℕ) (f : F) (es : List Entry) (g : F) (t : Stream)
@@ -92,7 +92,7 @@ entered_fits c d k q do' e = subst (FitsOwed k.len) do' e.fits
 -- the innermost value was left
 pub went_out : (mode : Mode) (h : Header) (s : Stream) (o : Option ℕ) (calls : List Heading) (es fs : List Entry) (t v x : Stream) (p q r : Option ℕ)
     (c d : Reading) (k : Kind) (cs : c.stream ≡ limited p t) (co : c.owed ≡ p) (ds : d.stream ≡ limited q v) (do' : d.owed ≡ q)
-    → IsUnderWay mode h s o calls es t p → Moves c d → c.kind ≡ values k → TopIs es k → c.state ≡ Open → c.mode ≡ mode → Within c → EndsAt c d
+    → IsUnderWay mode h s o calls es t p → Moves c d → c.kind ≡ values k → TopIs es k → c.state ≡ Open → c.mode ≡ mode → Within c → EndsBefore c d.stream.rest
     → LeavesInnermost es q fs r → x ≡ v → IsUnderWay mode h s o calls fs x r
 went_out mode h s o calls es fs t v x p q r c d k cs co ds do' u m ck ti st cm wi e l i =
     let a = passing t v p q c d cs co ds do' m in
@@ -227,7 +227,7 @@ module _ {F : Type 0} (step : Steps F ContentError) (mode : Mode) (h : Header) (
     -- the next header was refused, and the limit was given back
     pub went_wrong : {X : Type 0} → (e : Stop X) (v x' : Stream) (q r : Option ℕ) (c d : Reading) (k : Kind) (cs : c.stream ≡ limited p t) (co : c.owed ≡ p)
         (ds : d.stream ≡ limited q v) (do' : d.owed ≡ q) → Moves c d → 1 ≤ length es → c.kind ≡ values k → TopIs es k → c.state ≡ Open → c.mode ≡ mode
-        → Within c → Refuses stop_cause any (NothingThere any) (λ _. ⊥) c e d → x' ≡ v → r ≡ unwound es q
+        → Within c → Refuses stop_cause any (NothingThere any) ⊥ c e d → x' ≡ v → r ≡ unwound es q
         → RanBy step {T = Unit {0}} mode h s o f (Err (interrupt.Stopped e)) g x' r
     went_wrong e v x' q r c d k cs co ds do' m some ck ti st cm wi x j i =
         subst (λ z. RanBy step {T = Unit {0}} mode h s o f (Err (interrupt.Stopped e)) g z r) (sym j) record {
@@ -250,12 +250,12 @@ module _ {F : Type 0} (step : Steps F ContentError) (mode : Mode) (h : Header) (
         remains [] l ti li n j = absurd (omega arith)
         remains (top ∷ fs) l ti li n j = nothing_more mode fs t p c k ck st cm co (ap (λ z. z.rest) cs) (octets_moved t v p q c d cs co ds do' wi) n j top ti li
 
-        go : Refuses stop_cause any (NothingThere any) (λ _. ⊥) c e d → Breaks step mode h s o f (interrupt.Stopped e) g v r
+        go : Refuses stop_cause any (NothingThere any) ⊥ c e d → Breaks step mode h s o f (interrupt.Stopped e) g v r
         go (failed y z) = absurd (open_not_failed c.state st y)
         go (source y z) = by_source w.calls w.called b y (grew z)
         go (nothing n z) = by_content w.calls w.called b (nothing_whole mode h s o (heading h 0 ∷ w.calls) (remain mode es p t.rest) w.under.outcome
             (remains es some ti w.under.limits (no_value_of_nothing c wi n) (end_of_nothing c n))) z.refused
-        go (memory y n) = absurd n
+        go (otherwise n) = absurd n
 
   -- all was passed
   pub went_through : {X : Type 0} → (x : Unit {0}) (es : List Entry) (g : F) (t : Stream) (p : Option ℕ) → es ≡ [] → Goes step mode h s o f es g t p

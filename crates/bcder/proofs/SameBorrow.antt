@@ -9,7 +9,7 @@ use Rattle.bcder.specs.declared.decode.content.State.TheVariants.{Failed}
 use Rattle.bcder.specs.declared.decode.source.limited.LimitedSource.{LimitedSource}
 use Rattle.bcder.specs.x690.Identifier.{AreOctets}
 use Rattle.bcder.specs.calls.Stream.{Stream, IsSound}
-use Rattle.bcder.specs.calls.Content.{Reading, octets, values, Octets, Moves, Advances, Resembles}
+use Rattle.bcder.specs.calls.Content.{Reading, values, Octets, Moves, Advances, Resembles}
 use Rattle.bcder.specs.laws.Limits.{limited_sound, limit_told, first_kept}
 use Rattle.bcder.proofs.Entering.{Within, advances_by, within}
 use Rattle.bcder.specs.calls.Views.{of_content, of_primitive, of_constructed, content_name, limited_stream}
@@ -39,7 +39,7 @@ within_constructed stream sound c =
 
 pub constructed_form : {S : Type 0} (stream : S → Stream) (p : Constructed S) → (of_constructed stream p).kind ≢ Octets
 unfolding of_constructed
-constructed_form stream p e = (let x : values p.kind ≡ octets = e in cc)
+constructed_form stream p e = (let x : values p.kind ≡ Octets = e in cc)
 
 pub primitive_form : {S : Type 0} (stream : S → Stream) (p : Primitive S) → (of_primitive stream p).kind ≡ Octets
 unfolding of_primitive

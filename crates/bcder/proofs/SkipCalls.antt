@@ -16,9 +16,10 @@ use Rattle.bcder.specs.x690.Encoding.{IsEncoding, Header}
 use Rattle.bcder.specs.x690.Preorder.{Heading, preorder}
 use Rattle.bcder.specs.steps.Reading.{read_header, read_contents, read_list, read_tree}
 use Rattle.bcder.specs.calls.Stream.{Stream, Grew, cut, past, limited}
-use Rattle.bcder.specs.calls.Content.{Reading, Octets, Resembles, any, Falls, Moves, Advances, Enters, EndsAt, IsDone, NotAtEnd}
+use Rattle.bcder.specs.calls.Content.{Reading, Octets, Resembles, any, Falls, Moves, Advances, Enters, NotAtEnd}
 use Rattle.bcder.specs.x690.Grammar.{IsOnly}
-use Rattle.bcder.specs.calls.Walking.{HasNoNext, PassesValue, PassedBy, Walks}
+use Rattle.bcder.specs.calls.Walking.{HasNoNext, PassesValue, Walks}
+use Rattle.bcder.specs.calls.Takes.{HasNone, NextBy}
 use Rattle.bcder.specs.calls.Skipping.{Steps, Called, WereCalls, SkipsValue, RefusesSkip, SkippedBy}
 use Rattle.bcder.specs.calls.Skipping.{SkippedValueBy, RefusesOne, RefusesSkipAll}
 use Rattle.bcder.specs.calls.Skipping as skipping
@@ -153,15 +154,16 @@ module _ (c d e : Reading) (k : Header) (s t : Stream) (o p : Option ℕ) (withi
     pub skipped_value : {F T X : Type 0} (why : X → Cause ContentError) (step : Steps F ContentError) (f g : F) (y : T) → t.faults ≡ s.faults
         → d.stream.faults ≡ c.stream.faults → Called step f (heading k 0 ∷ calls) g → SkippedBy why step c f (Ok (Some y)) g e
     skipped_value why step f g y nf nd called = record {
-      value = skips_value step f g called;
-      end = tt;
-      done = tt;
+      next = record {
+        value = skips_value step f g called;
+        none = tt;
+        no_fault = ap (λ z. z.faults) es ∙ nf ∙ ap (λ z. z.faults) (sym ds) ∙ nd;
+        refused = tt;
+        failed = tt;
+        mode = em ∙ x.advances.mode;
+        marked = ea ∙ x.unmarked;
+      };
       uncalled = tt;
-      no_fault = ap (λ z. z.faults) es ∙ nf ∙ ap (λ z. z.faults) (sym ds) ∙ nd;
-      refused = tt;
-      failed = tt;
-      mode = em ∙ x.advances.mode;
-      marked = ea ∙ x.unmarked;
     }
 
   -- ---- a refusal of it
@@ -189,15 +191,16 @@ module _ (c d e : Reading) (k : Header) (s t : Stream) (o p : Option ℕ) (withi
 
     pub skipped_not : {T : Type 0} → Breaks step c.mode k s o f h g t p → SkippedBy {T = T} why step c f (Err y) g e
     skipped_not b = record {
-      value = tt;
-      end = tt;
-      done = tt;
+      next = record {
+        value = tt;
+        none = tt;
+        no_fault = tt;
+        refused = refused_by b;
+        failed = st;
+        mode = em ∙ x.advances.mode;
+        marked = ea ∙ x.unmarked;
+      };
       uncalled = tt;
-      no_fault = tt;
-      refused = refused_by b;
-      failed = st;
-      mode = em ∙ x.advances.mode;
-      marked = ea ∙ x.unmarked;
     }
 
     pub breaks_moves : s.faults ≤ t.faults → Breaks step c.mode k s o f h g t p → Moves c e
@@ -256,20 +259,24 @@ module _ (c d e : Reading) (k : Header) (m : Mode) (s t : Stream) (o p : Option 
 
 module _ {F X : Type 0} (why : X → Cause ContentError) (step : Steps F ContentError) (c d : Reading) (f : F) (mode : d.mode ≡ c.mode)
     (marked : d.marked ≡ c.marked) where
-  pub skipped_end : {T : Type 0} → EndsAt c d → IsDone d → d.stream.faults ≡ c.stream.faults → SkippedBy {T = T} why step c f (Ok None) f d
-  skipped_end a b n = record { value = tt; end = a; done = b; uncalled = refl; no_fault = n; refused = tt; failed = tt; mode = mode; marked = marked }
+  pub skipped_end : {T : Type 0} → HasNone any c d → SkippedBy {T = T} why step c f (Ok None) f d
+  skipped_end n = record {
+    next = record { value = tt; none = n; no_fault = n.no_fault; refused = tt; failed = tt; mode = mode; marked = marked };
+    uncalled = refl;
+  }
 
-  pub skipped_none : {T : Type 0} (e : X) → Moves c d → Refuses why any HasNoNext (λ _. ⊥) c e d → d.state ≡ Failed → SkippedBy {T = T} why step c f (Err e) f d
+  pub skipped_none : {T : Type 0} (e : X) → Moves c d → Refuses why any HasNoNext ⊥ c e d → d.state ≡ Failed → SkippedBy {T = T} why step c f (Err e) f d
   skipped_none e m r a = record {
-    value = tt;
-    end = tt;
-    done = tt;
+    next = record {
+      value = tt;
+      none = tt;
+      no_fault = tt;
+      refused = skipping.RefusesSkip.by_content [] refl (no_calls c d (moved_is_no_longer c d m)) r;
+      failed = a;
+      mode = mode;
+      marked = marked;
+    };
     uncalled = tt;
-    no_fault = tt;
-    refused = skipping.RefusesSkip.by_content [] refl (no_calls c d (moved_is_no_longer c d m)) r;
-    failed = a;
-    mode = mode;
-    marked = marked;
   }
 
 -- ---- a value that has to be there
@@ -277,20 +284,20 @@ module _ {F X : Type 0} (why : X → Cause ContentError) (step : Steps F Content
 module _ {F S : Type 0} (step : Steps F ContentError) (c : Reading) (f g : F) (d : Reading) where
   pub value_refused : {T U : Type 0} (e : DecodeError S) → SkippedBy {T = T} {X = DecodeError S} cause_of step c f (Err e) g d
       → SkippedValueBy {T = U} {S = S} step c f (Err e) g d
-  value_refused e s = record { value = tt; no_fault = tt; refused = inr (s.failed, s.refused); mode = s.mode; marked = s.marked }
+  value_refused e s = record { value = tt; no_fault = tt; refused = inr (s.next.failed, s.next.refused); mode = s.next.mode; marked = s.next.marked }
 
 -- ---- without a closure
 
 module _ {X : Type 0} (why : X → Cause ContentError) (c d e : Reading) where
   -- a value that was passed at once
   pub one_at_once : {T : Type 0} (x : T) → PassesValue c d → d.stream.faults ≡ c.stream.faults → d.mode ≡ c.mode → d.marked ≡ c.marked
-      → PassedBy {E = X} (RefusesOne why) c (Ok (Some x)) d
-  one_at_once x p n m k = record { value = p; end = tt; done = tt; no_fault = n; refused = tt; failed = tt; mode = m; marked = k }
+      → NextBy {E = X} any (λ i _ j. PassesValue i j) (RefusesOne why) c (Ok (Some x)) d
+  one_at_once x p n m k = record { value = p; none = tt; no_fault = n; refused = tt; failed = tt; mode = m; marked = k }
 
   -- and one that was refused at once
   pub refused_at_once : {T : Type 0} (x : X) → RefusesOne why c x d → d.state ≡ Failed → d.mode ≡ c.mode → d.marked ≡ c.marked
-      → PassedBy {T = T} (RefusesOne why) c (Err x) d
-  refused_at_once x r f m k = record { value = tt; end = tt; done = tt; no_fault = tt; refused = r; failed = f; mode = m; marked = k }
+      → NextBy {T = T} any (λ i _ j. PassesValue i j) (RefusesOne why) c (Err x) d
+  refused_at_once x r f m k = record { value = tt; none = tt; no_fault = tt; refused = r; failed = f; mode = m; marked = k }
 
   -- content that was only looked at before
   looked_calls : Resembles c d → (calls : List Heading) → WereCalls d calls e → WereCalls c calls e
@@ -304,17 +311,18 @@ module _ {X : Type 0} (why : X → Cause ContentError) (c d e : Reading) where
   }
 
   looked_one : Resembles c d → d.stream.faults ≡ c.stream.faults → (y : X) → RefusesOne why d y e → RefusesOne why c y e
-  looked_one s f y (skipping.RefusesOne.by_walk r) = skipping.RefusesOne.by_walk (looked_refused why c d e s f y r)
-  looked_one s f y (skipping.RefusesOne.by_depth g j) = skipping.RefusesOne.by_depth
-      (record { calls = g.calls; last = g.last; were = looked_calls s (g.calls ++ g.last ∷ []) g.were; constructed = g.constructed; deep = g.deep }) j
+  looked_one s f y r = looked_refused why c d e s f (λ x. (let g = x.1 in
+      (x.0, record { calls = g.calls; last = g.last; were = looked_calls s (g.calls ++ g.last ∷ []) g.were; constructed = g.constructed; deep = g.deep }))) y r
 
-  pub looked_skipped : {T : Type 0} (r : Result (Option T) X) → Resembles c d → d.stream.faults ≡ c.stream.faults → PassedBy (RefusesOne why) d r e
-      → PassedBy (RefusesOne why) c r e
+  pub looked_skipped : {T : Type 0} (r : Result (Option T) X) → Resembles c d → d.stream.faults ≡ c.stream.faults
+      → NextBy any (λ i _ j. PassesValue i j) (RefusesOne why) d r e → NextBy any (λ i _ j. PassesValue i j) (RefusesOne why) c r e
   looked_skipped r s f = looked_by c d e s f (RefusesOne why) (looked_one s f) r
 
 -- ---- all values
 
 pub loop_refused : {X : Type 0} (why : X → Cause ContentError) (e : X) (i j k : Reading) → i.kind ≢ Octets → Walks i j → RefusesOne why j e k
     → RefusesSkipAll why i e k
-loop_refused why e i j k o w (skipping.RefusesOne.by_walk r) = skipping.RefusesSkipAll.by_values (walks_refused why e i j k o w r)
-loop_refused why e i j k o w (skipping.RefusesOne.by_depth g h) = skipping.RefusesSkipAll.by_depth j w g h
+loop_refused why e i j k o w (refusals.Refuses.failed f a) = skipping.RefusesSkipAll.by_values (walks_refused why e i j k o w (refusals.Refuses.failed f a))
+loop_refused why e i j k o w (refusals.Refuses.source s f) = skipping.RefusesSkipAll.by_values (walks_refused why e i j k o w (refusals.Refuses.source s f))
+loop_refused why e i j k o w (refusals.Refuses.nothing n a) = skipping.RefusesSkipAll.by_values (walks_refused why e i j k o w (refusals.Refuses.nothing n a))
+loop_refused why e i j k o w (refusals.Refuses.otherwise g) = skipping.RefusesSkipAll.by_depth j w g.1 g.0

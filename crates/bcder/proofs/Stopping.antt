@@ -16,20 +16,20 @@ module _ {E F : Type 0} (stopped : E → Cause ContentError) (why : F → Cause 
   named : content.NamesViolation (stopped s) c → content.NamesViolation (why e) c
   named o = record { violation = o.violation; violates = o.violates; named = same ∙ o.named }
 
-  pub header_stopped : (asked : Asked) → Refuses stopped asked (NothingThere asked) (λ _. ⊥) c s d → Refuses why asked (NothingThere asked) (λ _. ⊥) c e d
+  pub header_stopped : (asked : Asked) → Refuses stopped asked (NothingThere asked) ⊥ c s d → Refuses why asked (NothingThere asked) ⊥ c e d
   header_stopped asked (refusals.Refuses.failed x o) = refusals.Refuses.failed x (own o)
   header_stopped asked (refusals.Refuses.source k x) = refusals.Refuses.source (same ∙ k) x
   header_stopped asked (refusals.Refuses.nothing x o) =
       refusals.Refuses.nothing x (record { refused = own o.refused; named = λ q. named (o.named q) })
-  header_stopped asked (refusals.Refuses.memory k n) = absurd n
+  header_stopped asked (refusals.Refuses.otherwise n) = absurd n
 
   pub end_stopped : calls.RefusesEnd stopped c s d → calls.RefusesEnd why c e d
   end_stopped (calls.RefusesEnd.left_failed x o) = calls.RefusesEnd.left_failed x (own o)
   end_stopped (calls.RefusesEnd.source_failed k x) = calls.RefusesEnd.source_failed (same ∙ k) x
   end_stopped (calls.RefusesEnd.left_open x o) = calls.RefusesEnd.left_open x (own o)
 
-  pub walk_stopped : Refuses stopped any HasNoNext (λ _. ⊥) c s d → Refuses why any HasNoNext (λ _. ⊥) c e d
+  pub walk_stopped : Refuses stopped any HasNoNext ⊥ c s d → Refuses why any HasNoNext ⊥ c e d
   walk_stopped (refusals.Refuses.failed x o) = refusals.Refuses.failed x (own o)
   walk_stopped (refusals.Refuses.source k x) = refusals.Refuses.source (same ∙ k) x
   walk_stopped (refusals.Refuses.nothing n o) = refusals.Refuses.nothing n (record { refused = own o.refused; named = λ q. named (o.named q) })
-  walk_stopped (refusals.Refuses.memory k n) = absurd n
+  walk_stopped (refusals.Refuses.otherwise n) = absurd n

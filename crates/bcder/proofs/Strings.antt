@@ -22,7 +22,7 @@ use Rattle.bcder.specs.calls.CapturingValues.{IsAsBefore, CapturesBy, CapturesVa
 use Rattle.bcder.specs.calls.StringOctets.{StringOctets, whole, cut, MeansString}
 use Rattle.bcder.specs.x690.OctetString.{segments_of, AreSegmentsIn, MayBeWhole, AreCut}
 use Rattle.bcder.specs.steps.SegmentTable.{segments_at, IsTable}
-use Rattle.bcder.specs.calls.Valued.{HoldsOctets, HoldsValues, HoldsNone, ReadsTree, NeedsMemory, RefusesToRead, ReadsContent}
+use Rattle.bcder.specs.calls.Valued.{HoldsOctets, HoldsValues, HoldsNone, ReadsTree, NeedsMemory, RefusesToRead, ReadsContent, RefusesTree}
 use Rattle.bcder.specs.calls.Valued.{HasTagged, HasNoTree, WantsMemoryFor, TakesNextTree}
 use Rattle.bcder.specs.calls.Valued as valued
 use Rattle.bcder.specs.laws.Lists.{empty_list}
@@ -112,9 +112,9 @@ too_few tag Means c k o s (primitive t contents) x h means = omega (arith, s.sho
 too_few tag Means c k o s (constructed t ts) x h means = not_values c ts k o h.1
 
 refused_octets : {X : Type 0} (tag : Tag) (c d : Reading) (e : DecodeError X) → c.kind ≡ Octets → c.state ≡ Open → (c.mode ≡ Cer → limit_or c.owed 0 ≤ 1000)
-    → RefusesReading (λ w (b : List ℕ). b ≡ w) FindNoMemory c e d → RefusesToRead tag (MeansPiece c.mode) c e d
-refused_octets tag c d e k o most (readers.RefusesReading.missing (readers.RefusesTooFew.source s g)) = valued.RefusesToRead.source s g
-refused_octets tag c d e k o most (readers.RefusesReading.missing (readers.RefusesTooFew.few s a n)) = valued.RefusesToRead.nothing (too_few tag _ c k o s) a
+    → RefusesReading FindNoMemory c e d → RefusesToRead tag (MeansPiece c.mode) c e d
+refused_octets tag c d e k o most (readers.RefusesReading.source s g) = valued.RefusesToRead.source s g
+refused_octets tag c d e k o most (readers.RefusesReading.few s a n) = valued.RefusesToRead.nothing (too_few tag _ c k o s) a
 refused_octets tag c d e k o most (readers.RefusesReading.refused h a n) =
     valued.RefusesToRead.memory a (valued.NeedsMemory.of_octets c.stream.rest c.stream.rest (all_held c k o h) (all_whole c most h, refl))
 
@@ -194,12 +194,10 @@ module _ {X : Type 0} (Means : Mode → Tree → StringOctets → Type 0) (in_on
       wanted (valued.WantsMemoryFor.of_value t w rest x h m) = valued.WantsMemoryFor.of_value t w rest (whole x) h m
       wanted (valued.WantsMemoryFor.of_header der a h g) = valued.WantsMemoryFor.of_header der a h g
 
-      of_piece : Refuses cause_of (tagged tag) (HasNoTree {T = List ℕ} tag (λ t w. Means c.mode t (whole w)))
-          (WantsMemoryFor {T = List ℕ} tag (λ t w. Means c.mode t (whole w))) c e d
-          → Refuses cause_of (tagged tag) (HasNoTree tag (Means c.mode)) (WantsMemoryFor tag (Means c.mode)) c e d
+      of_piece : RefusesTree {T = List ℕ} tag (λ t w. Means c.mode t (whole w)) c e d → RefusesTree tag (Means c.mode) c e d
       of_piece (refusals.Refuses.failed s i) = refusals.Refuses.failed s i
       of_piece (refusals.Refuses.source s g) = refusals.Refuses.source s g
-      of_piece (refusals.Refuses.memory s h) = refusals.Refuses.memory s (wanted h)
+      of_piece (refusals.Refuses.otherwise h) = refusals.Refuses.otherwise (h.0, wanted h.1)
       of_piece (refusals.Refuses.nothing n i) = refusals.Refuses.nothing (record { usable = n.usable; value = none n; absent = n.absent }) i
 
 -- a primitive octet string
@@ -271,11 +269,11 @@ no_others tag Means c o n (constructed t ts) x held means = of_held held.1
     of_held (inr e) = open_not_ended c.state n.usable e.0
 
 not_captured : {X : Type 0} (tag : Tag) (c d : Reading) (e : DecodeError X) → c.kind ≢ Octets → c.mode ≢ Der → IsAsBefore c d
-    → Refuses cause_of any HasOthers HasValuesOrDeep c e d → RefusesToRead tag (MeansString c.mode) c e d
+    → Refuses cause_of any HasOthers ((cause_of e ≡ of_memory) × HasValuesOrDeep c) c e d → RefusesToRead tag (MeansString c.mode) c e d
 not_captured tag c d e o m b (refusals.Refuses.failed s a) = valued.RefusesToRead.failed s a
 not_captured tag c d e o m b (refusals.Refuses.source s g) = valued.RefusesToRead.source s g
 not_captured tag c d e o m b (refusals.Refuses.nothing n a) = valued.RefusesToRead.nothing (no_others tag _ c o n) a.refused
-not_captured tag c d e o m b (refusals.Refuses.memory s h) = valued.RefusesToRead.memory s (valued.NeedsMemory.of_values m o h b.rest b.state)
+not_captured tag c d e o m b (refusals.Refuses.otherwise h) = valued.RefusesToRead.memory h.0 (valued.NeedsMemory.of_values m o h.1 b.rest b.state)
 
 -- what is answered of values
 module _ {X : Type 0} (tag : Tag) (c d : Reading) where

@@ -23,7 +23,7 @@ use Rattle.bcder.specs.calls.StringMeaning.{full_segments, segments_in_cer, is_c
 use Rattle.bcder.specs.calls.Content.{Reading, tagged, IsAbsent, IsElsewhere, none_left, other, marker}
 use Rattle.bcder.specs.calls.Walking.{HasValue}
 use Rattle.bcder.specs.calls.Takes.{HasNone}
-use Rattle.bcder.specs.calls.Valued.{HasNoTree, WantsMemoryFor, tag_of, HasTagged, TakesTree, TakesNextTree, TakesOneTree}
+use Rattle.bcder.specs.calls.Valued.{tag_of, HasTagged, TakesTree, TakesNextTree, TakesOneTree, RefusesTree}
 use Rattle.bcder.specs.calls.TakenBack.{StandsIn, SourceFailedOrNoMemory}
 use Rattle.bcder.specs.calls.WrittenStrings.{IsWrittenString, HasOctets, HasSomeOctets, AnswersSuch, IsTakenString, IsMadeUp, one_encoded, WrittenAsRead}
 use Rattle.bcder.specs.laws.Canonical.{big_endian-lt, one_spelling}
@@ -36,9 +36,7 @@ use Rattle.bcder.proofs.Headers.{front_of_header, no_other_front}
 use Rattle.bcder.proofs.Moving.{open_not_ended, open_not_failed}
 use Rattle.bcder.proofs.OneString.{means_flat, one_string, one_string_encoding, over_1000}
 use Rattle.bcder.proofs.Segmenting.{by_octets, parts_octets}
-use Rattle.bcder.specs.calls.Cause.{cause_of}
 use Rattle.bcder.specs.calls.Refusals as refusals
-use Rattle.bcder.specs.calls.Refusals.{Refuses}
 use Rattle.bcder.proofs.WrittenStrings.{segments_hold, segments_shape, meant_whole, meant_cut, not_ber, string_written}
 
 -- ---- what stands in front
@@ -92,10 +90,10 @@ module _ (X : Type 0) (t : Tag) (mode : Mode) (w : List ℕ) (e : Encoded) (writ
       (means_flat c.mode x.tree y x.means.1 ∙ ap flat one.0 ∙ written.octets, append_cancel_left e.octets d.stream.rest after rest, x.stays)
 
   refusal_fails : (f : DecodeError X) (d : Reading)
-      → Refuses cause_of (tagged t) (HasNoTree t (MeansString c.mode)) (WantsMemoryFor t (MeansString c.mode)) c f d → SourceFailedOrNoMemory c f d
+      → RefusesTree t (MeansString c.mode) c f d → SourceFailedOrNoMemory c f d
   refusal_fails f d (refusals.failed h i) = absurd (open_not_failed c.state s.usable h)
   refusal_fails f d (refusals.source h g) = inl (h, g)
-  refusal_fails f d (refusals.memory h k) = inr h
+  refusal_fails f d (refusals.otherwise h) = inr h.0
   refusal_fails f d (refusals.nothing b i) =
       let meant = meant_by c.mode written.value e.octets there.0.encodes (subst (λ m. IsOctetString m written.value) (sym s.in_mode) written.shape) in
       absurd (b.value written.value e.octets after meant.0 there meant.1)

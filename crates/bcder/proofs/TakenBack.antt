@@ -35,8 +35,9 @@ use Rattle.bcder.specs.calls.ReadBack.{IsReadBack}
 use Rattle.bcder.specs.calls.Content.{Reading, tagged, IsAbsent, IsElsewhere, none_left, other, marker}
 use Rattle.bcder.specs.calls.Takes.{HasNone}
 use Rattle.bcder.specs.calls.Readers.{MeanNothing, MeanAnother, NoInteger, NoUnsigned, IsThis, IsSigned, IsUnsigned, IsTruth, IsNull}
-use Rattle.bcder.specs.calls.Typed.{HasPrimitive, TakesAs, RefusesAs, TakesNextAs, PassesNextAs, TakesOneAs}
-use Rattle.bcder.specs.calls.Typed as typed
+use Rattle.bcder.specs.calls.Refusals as refusals
+use Rattle.bcder.specs.calls.Walking.{HasValue}
+use Rattle.bcder.specs.calls.Typed.{TakesAs, RefusesAs, TakesNextAs, PassesNextAs, TakesOneAs}
 use Rattle.bcder.specs.calls.TakenBack.{StandsIn, SourceFailed, SourceFailedOrNoMemory, AnswersLeaving, TakesBack, IsTakenBackBy, IsTakenBack}
 use Rattle.bcder.specs.laws.Complete.{only_at_front, definite_size}
 use Rattle.bcder.specs.laws.Integers.{integer_octets_are}
@@ -54,9 +55,9 @@ use Rattle.bcder.proofs.Moving.{open_not_ended, open_not_failed}
 contents_same : (t : Tag) (v w : List ℕ) → ◌≡◌ {A = Tree} (primitive t v) (primitive t w) → v ≡ w
 contents_same t v w e = cc
 
-module _ (tag : Tag) (c : Reading) (contents w after : List ℕ) (has : HasPrimitive tag c contents w after) where
+module _ (tag : Tag) (c : Reading) (contents w after : List ℕ) (has : HasValue c (primitive tag contents) w after) where
   -- no other value does
-  same_value : (v x y : List ℕ) → HasPrimitive tag c v x y → (v ≡ contents) × (y ≡ after)
+  same_value : (v x y : List ℕ) → HasValue c (primitive tag v) x y → (v ≡ contents) × (y ≡ after)
   same_value v x y h =
       let one = only_at_front c.mode (primitive tag contents) w after has.encodes (primitive tag v) x y h.encodes (sym has.rest ∙ h.rest) in
       let rest : w ++ y ≡ w ++ after = ap (λ z. z ++ y) (sym one.1) ∙ sym h.rest ∙ has.rest in
@@ -88,19 +89,19 @@ module _ {T X : Type 0} (Fails : Reading → DecodeError X → Reading → Type 
     (source : (c : Reading) (e : DecodeError X) (d : Reading) → SourceFailed c e d → Fails c e d) where
   module _ (contents w after : List ℕ) (encodes : IsEncoding mode (primitive tag contents) w) (no_other : (y : T) → Means contents y → y ≡ x)
       (excused : (c : Reading) (e : DecodeError X) (d : Reading) → Refuses contents e → Fails c e d) (c : Reading) (s : StandsIn mode w after c) where
-    has_value : HasPrimitive tag c contents w after
+    has_value : HasValue c (primitive tag contents) w after
     has_value = record { usable = s.usable; encodes = subst (λ m. IsEncoding m (primitive tag contents) w) (sym s.in_mode) encodes; rest = s.rest }
 
-    taken_is : (y : T) (d : Reading) → TakesAs tag Means Refuses c y d → (y ≡ x) × (d.stream.rest ≡ after) × (d.state ≡ Open)
+    taken_is : (y : T) (d : Reading) → TakesAs tag Means c y d → (y ≡ x) × (d.stream.rest ≡ after) × (d.state ≡ Open)
     taken_is y d t =
         let same = same_value tag c contents w after has_value t.contents t.octets d.stream.rest t.has in
         (no_other y (subst (λ z. Means z y) same.0 t.means), same.1, t.stays)
 
     refusal_fails : (e : DecodeError X) (d : Reading) → RefusesAs tag Means Refuses c e d → Fails c e d
-    refusal_fails e d (typed.failed f i) = absurd (open_not_failed c.state s.usable f)
-    refusal_fails e d (typed.source f g) = source c e d (f, g)
-    refusal_fails e d (typed.broken b i) = absurd (b.value contents w after has_value)
-    refusal_fails e d (typed.refused v z rest h r) =
+    refusal_fails e d (refusals.Refuses.failed f i) = absurd (open_not_failed c.state s.usable f)
+    refusal_fails e d (refusals.Refuses.source f g) = source c e d (f, g)
+    refusal_fails e d (refusals.Refuses.nothing b i) = absurd (b.value contents w after has_value)
+    refusal_fails e d (refusals.Refuses.otherwise (v, z, rest, h, r)) =
         let same = same_value tag c contents w after has_value v z rest h in
         excused c e d (subst (λ y. Refuses y e) same.0 r)
 

@@ -15,8 +15,7 @@ use Rattle.bcder.specs.x690.Encoding.{IsHeader, IsEncoding, Header}
 use Rattle.bcder.specs.calls.Content.{NothingThere, Reading, ContentForm, Octets, DefiniteValues, IndefiniteValues, UnboundedValues, label}
 use Rattle.bcder.specs.calls.Content.{Moves, Advances, Asked, IsAsked, HasHeader, Enters}
 use Rattle.bcder.specs.calls.Calls.{IsFormOf, ContentOf, Hands, Untagged, Answered, AnswersDone, RefusesContent, by_closure}
-use Rattle.bcder.specs.calls.Calls.{unfinished, TakesContent, TakesValue, RefusesFront, RefusesValue, IsInside}
-use Rattle.bcder.specs.calls.Calls as calls
+use Rattle.bcder.specs.calls.Calls.{unfinished, TakesContent, TakesValue, RefusesFront, IsInside}
 use Rattle.bcder.specs.steps.Inside.{TakesBehind, of_form, refused, taken}
 use Rattle.bcder.specs.calls.Takes.{HasNone, HasRefusedForm, by_header, by_form, by_content, TakesNext}
 use Rattle.bcder.specs.laws.Complete.{header_size}
@@ -133,11 +132,12 @@ module _ (c c1 c2 : Reading) (h : Header) (asked : Asked) (t : IsAsked asked h.t
 
 -- a header that wasn't passed is a value that wasn't taken
 pub value_refused : {C T E : Type 0} (why : E → Cause ContentError) (view : C → Reading) (post : Tag → MutBor C → Result T E → MutBor C → Type 0)
-    (asked : Asked) (c : Reading) (e : E) (d : Reading) → Refuses why asked (NothingThere asked) (λ _. ⊥) c e d → RefusesValue why view post asked c e d
-value_refused why view post asked c e d (refusals.Refuses.failed s o) = calls.RefusesValue.failed s o
-value_refused why view post asked c e d (refusals.Refuses.source k g) = calls.RefusesValue.source k g
-value_refused why view post asked c e d (refusals.Refuses.nothing n o) = calls.RefusesValue.nothing n (o.named n)
-value_refused why view post asked c e d (refusals.Refuses.memory k n) = absurd n
+    (asked : Asked) (c : Reading) (e : E) (d : Reading) → Refuses why asked (NothingThere asked) ⊥ c e d
+    → Refuses why asked (NothingThere asked) (RefusesFront why view post asked c e d) c e d
+value_refused why view post asked c e d (refusals.Refuses.failed s o) = refusals.Refuses.failed s o
+value_refused why view post asked c e d (refusals.Refuses.source k g) = refusals.Refuses.source k g
+value_refused why view post asked c e d (refusals.Refuses.nothing n o) = refusals.Refuses.nothing n o
+value_refused why view post asked c e d (refusals.Refuses.otherwise n) = absurd n
 
 -- the form of what is handed is not that at top level
 not_unbounded : (f : Bool) (len : Length) (k : ContentForm) → IsFormOf f len k → k ≢ UnboundedValues
@@ -225,7 +225,7 @@ module _ {C T X : Type 0} (view : C → Reading) (post : Tag → MutBor C → Re
     pub next_none : HasNone asked c d → TakesNext view post form asked c (Ok None) d
     next_none n = record { value = tt; shorter = tt; none = n; refused = tt; failed = tt; mode = mo }
 
-    pub next_refused : (e : DecodeError X) → Refuses cause_of asked (NothingThere asked) (λ _. ⊥) c e d → d.marked ≡ c.marked → d.state ≡ Failed
+    pub next_refused : (e : DecodeError X) → Refuses cause_of asked (NothingThere asked) ⊥ c e d → d.marked ≡ c.marked → d.state ≡ Failed
         → TakesNext view post form asked c (Err e) d
     next_refused e h m f = record { value = tt; shorter = tt; none = tt; refused = by_header h m; failed = f; mode = mo }
 

@@ -22,11 +22,10 @@ use Rattle.bcder.specs.calls.Content.{HasHeader, IsAbsent, IsElsewhere, none_lef
 use Rattle.bcder.specs.calls.Calls.{Hands, IsFormOf, ContentOf, Answered, TakesValue, RefusesFront, RefusesContent, by_closure}
 use Rattle.bcder.specs.calls.Calls.{unfinished, RefusesEnd, left_failed, source_failed, left_open, HasForm, Untagged}
 use Rattle.bcder.specs.calls.Takes.{HasNone, TakesNext, Takes, RefusesTake, by_header, by_form, by_content}
-use Rattle.bcder.specs.calls.Walking.{IsShort}
+use Rattle.bcder.specs.calls.Walking.{HasValue, IsShort}
 use Rattle.bcder.specs.calls.Readers.{HasAll, Reads, RefusesReading}
 use Rattle.bcder.specs.calls.Readers as readers
-use Rattle.bcder.specs.calls.Typed.{HasPrimitive, HasBroken, TakesAs, RefusesAs, TakesNextAs, PassesNextAs, TakesOneAs}
-use Rattle.bcder.specs.calls.Typed as typed
+use Rattle.bcder.specs.calls.Typed.{HasBroken, TakesAs, RefusesAs, TakesNextAs, PassesNextAs, TakesOneAs}
 use Rattle.bcder.specs.laws.Complete.{one_header}
 use Rattle.bcder.specs.laws.Sound.{AreOctets-take}
 use Rattle.bcder.specs.laws.Stands.{AreOctets-after}
@@ -54,7 +53,7 @@ any_of tag c after f = record {
 }
 
 -- where a value of the tag stands in front, its header does
-primitive_header : (tag : Tag) (c : Reading) → Within c → (contents w rest : List ℕ) → HasPrimitive tag c contents w rest
+primitive_header : (tag : Tag) (c : Reading) → Within c → (contents w rest : List ℕ) → HasValue c (primitive tag contents) w rest
     → (x : List ℕ) × HasHeader (tagged tag) c x
 primitive_header tag c within contents w rest h =
     let d = h.encodes.1 in
@@ -89,7 +88,7 @@ header_not_absent tag c x rest o f (inr e) = elsewhere e.1
     elsewhere (marker y z m) = header_no_marker (tagged tag) c x rest f m
 
 -- a header of another form isn't that of such a value
-no_other_form : (tag : Tag) (c : Reading) (f : HasForm true (tagged tag) c) (contents w rest : List ℕ) → HasPrimitive tag c contents w rest → ⊥
+no_other_form : (tag : Tag) (c : Reading) (f : HasForm true (tagged tag) c) (contents w rest : List ℕ) → HasValue c (primitive tag contents) w rest → ⊥
 no_other_form tag c f contents w rest h =
     let d = h.encodes.1 in
     let e : c.stream.rest ≡ d.header ++ (contents ++ rest) = h.rest ∙ ap (λ z. z ++ rest) d.is ∙ append_assoc d.header contents rest in
@@ -134,7 +133,7 @@ module _ (tag : Tag) (c i : Reading) (w : Within c) (after : List ℕ) (f : HasH
 
   -- the value stands in front
   pub handed_value : c.state ≡ Open → HasAll (length i.stream.rest) i → (rest : List ℕ) → after ≡ i.stream.rest ++ rest
-      → HasPrimitive tag c i.stream.rest (f.octets ++ i.stream.rest) rest
+      → HasValue c (primitive tag i.stream.rest) (f.octets ++ i.stream.rest) rest
   handed_value o a rest e =
       record { usable = o; encodes = handed_encoded a; rest = f.rest ∙ ap (λ z. f.octets ++ z) e ∙ sym (append_assoc f.octets i.stream.rest rest) }
 
@@ -183,7 +182,7 @@ module _ {C T X : Type 0} (view : C → Reading) (post : Tag → MutBor C → Re
     unmarked : v.left.marked ≡ false
     unmarked = v.answers.marked ∙ read_all.marked ∙ v.hands.marked
 
-    taken_as : TakesAs tag (MeansIn c.mode) (RefusesIn c.mode) c x d
+    taken_as : TakesAs tag (MeansIn c.mode) c x d
     taken_as =
         let k = handed_is_octets v.front.tag v.handed v.answers.left (Ok x) v.answers.answered in
         let e : IsEncoding c.mode v.tree (v.front.octets ++ v.passed) =
@@ -206,26 +205,31 @@ module _ {C T X : Type 0} (view : C → Reading) (post : Tag → MutBor C → Re
   -- ---- refused
 
   module _ (c d : Reading) (w : Within c) (e : DecodeError X) (f : RefusesFront cause_of view post (tagged tag) c e d) where
-    is_broken : ((contents u rest : List ℕ) → HasPrimitive tag c contents u rest → ⊥) → HasBroken tag c
+    is_broken : ((contents u rest : List ℕ) → HasValue c (primitive tag contents) u rest → ⊥) → HasBroken tag c
     is_broken n = record { usable = f.usable; value = n; absent = λ rest. header_not_absent tag c f.after rest f.usable f.front }
 
-    few_octets : f.handed.kind ≡ Octets → IsShort f.handed → (contents u rest : List ℕ) → HasPrimitive tag c contents u rest → ⊥
+    few_octets : f.handed.kind ≡ Octets → IsShort f.handed → (contents u rest : List ℕ) → HasValue c (primitive tag contents) u rest → ⊥
     few_octets k s contents u rest h =
         (short_front c f.handed f.after (any_of tag c f.after f.front) f.hands k s).none (primitive tag contents) u rest h.encodes h.rest
 
-    refused_octets : f.handed.kind ≡ Octets → RefusesReading (MeansIn c.mode) (RefusesIn c.mode) f.handed e f.left
+    refused_octets : f.handed.kind ≡ Octets → RefusesReading (RefusesIn c.mode) f.handed e f.left
         → RefusesAs tag (MeansIn c.mode) (RefusesIn c.mode) c e d
-    refused_octets k (readers.RefusesReading.missing (readers.RefusesTooFew.source s g)) =
-        typed.RefusesAs.source s (grew_between _ _ _ _ (no_fewer _ _ f.faults_handed) g f.faults_left)
-    refused_octets k (readers.RefusesReading.missing (readers.RefusesTooFew.few s o n)) =
-        typed.RefusesAs.broken (is_broken (few_octets k s)) (behind_header (tagged tag) c (cause_of e) o f.after f.front)
-    refused_octets k (readers.RefusesReading.refused a r n) = typed.RefusesAs.refused f.handed.stream.rest _ _
-        (handed_value tag c f.handed w f.after f.front f.hands k f.usable a _ (handed_before tag c f.handed w f.after f.front f.hands k a)) r
+    refused_octets k (readers.RefusesReading.source s g) =
+        refusals.Refuses.source s (grew_between _ _ _ _ (no_fewer _ _ f.faults_handed) g f.faults_left)
+    refused_octets k (readers.RefusesReading.few s o n) =
+        refusals.Refuses.nothing (is_broken (few_octets k s)) (behind_header (tagged tag) c (cause_of e) o f.after f.front)
+    refused_octets k (readers.RefusesReading.refused a r n) = refusals.Refuses.otherwise (
+      f.handed.stream.rest,
+      _,
+      _,
+      handed_value tag c f.handed w f.after f.front f.hands k f.usable a _ (handed_before tag c f.handed w f.after f.front f.hands k a),
+      r,
+    )
 
     refused_end : (l : Reading) → l.kind ≡ Octets → l.state ≡ Open → l.owed ≡ Some 0 → l.stream.faults ≡ f.handed.stream.faults → RefusesEnd cause_of l e f.left
         → RefusesAs tag (MeansIn c.mode) (RefusesIn c.mode) c e d
     refused_end l k o z n (left_failed x a) = absurd (open_not_failed l.state o x)
-    refused_end l k o z n (source_failed s g) = typed.RefusesAs.source s (grew_between _ _ _ _ (no_fewer _ _ (n ∙ f.faults_handed)) g f.faults_left)
+    refused_end l k o z n (source_failed s g) = refusals.Refuses.source s (grew_between _ _ _ _ (no_fewer _ _ (n ∙ f.faults_handed)) g f.faults_left)
     refused_end l k o z n (left_open x a) = absurd (x.none l.stream.rest (inr (o, of_octets k z)))
 
     refused_content : RefusesContent cause_of view post f.front.tag f.handed e f.left → RefusesAs tag (MeansIn c.mode) (RefusesIn c.mode) c e d
@@ -242,13 +246,13 @@ module _ {C T X : Type 0} (view : C → Reading) (post : Tag → MutBor C → Re
 
   refused_as : (c d : Reading) → Within c → (e : DecodeError X) → RefusesTake view post (Some true) (tagged tag) c e d
       → RefusesAs tag (MeansIn c.mode) (RefusesIn c.mode) c e d
-  refused_as c d w e (by_header (refusals.Refuses.failed s a) m) = typed.RefusesAs.failed s a
-  refused_as c d w e (by_header (refusals.Refuses.source s g) m) = typed.RefusesAs.source s g
-  refused_as c d w e (by_header (refusals.Refuses.memory k n) m) = absurd n
-  refused_as c d w e (by_header (refusals.Refuses.nothing n a) m) = typed.RefusesAs.broken
+  refused_as c d w e (by_header (refusals.Refuses.failed s a) m) = refusals.Refuses.failed s a
+  refused_as c d w e (by_header (refusals.Refuses.source s g) m) = refusals.Refuses.source s g
+  refused_as c d w e (by_header (refusals.Refuses.otherwise n) m) = absurd n
+  refused_as c d w e (by_header (refusals.Refuses.nothing n a) m) = refusals.Refuses.nothing
       (record { usable = n.usable; value = λ contents u rest h. (let x = primitive_header tag c w contents u rest h in n.header x.0 x.1); absent = n.absent })
       a
-  refused_as c d w e (by_form f a m) = typed.RefusesAs.broken (record {
+  refused_as c d w e (by_form f a m) = refusals.Refuses.nothing (record {
     usable = f.usable;
     value = no_other_form tag c f;
     absent = λ rest. header_not_absent tag c f.after rest f.usable f.front;
@@ -302,7 +306,7 @@ module _ {C T X : Type 0} (view : C → Reading) (post : Tag → MutBor C → Re
       → PassesNextAs tag (MeansIn c.mode) (RefusesIn c.mode) c (Ok x) d
   passes_as x only c d (Some y) w n =
       record {
-        value = inl (subst (λ z. TakesAs tag (MeansIn c.mode) (RefusesIn c.mode) c z d) (only y) (taken_as c d w y n.value));
+        value = inl (subst (λ z. TakesAs tag (MeansIn c.mode) c z d) (only y) (taken_as c d w y n.value));
         no_fault = taken_faults c d w y n.value;
         refused = tt;
         failed = tt;

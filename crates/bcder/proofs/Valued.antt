@@ -19,13 +19,13 @@ use Rattle.bcder.specs.x690.OctetString.{AreSegmentsIn}
 use Rattle.bcder.specs.calls.Readers.{HasAll}
 use Rattle.bcder.specs.x690.Encoding.{may_have, IsHeader, IsDefinite, IsFramed, IsEncoding, AreEncodings}
 use Rattle.bcder.specs.calls.Cause.{cause_of}
-use Rattle.bcder.specs.calls.Content.{NothingThere, Reading, ContentForm, octets, values, Octets, DefiniteValues, IndefiniteValues}
+use Rattle.bcder.specs.calls.Content.{NothingThere, Reading, ContentForm, values, Octets, DefiniteValues, IndefiniteValues}
 use Rattle.bcder.specs.calls.Content.{tagged, label, HasHeader, HasMarker, IsDone}
 use Rattle.bcder.specs.calls.Calls.{Hands, IsFormOf, ContentOf, Answered, TakesValue, RefusesFront, RefusesContent}
 use Rattle.bcder.specs.calls.Calls.{by_closure, unfinished, RefusesEnd, left_failed, source_failed, left_open}
 use Rattle.bcder.specs.calls.Takes.{HasNone, TakesNext, RefusesTake, by_header, by_form, by_content}
 use Rattle.bcder.specs.calls.Walking.{HasValues, ClosesBefore}
-use Rattle.bcder.specs.calls.Valued.{HasNoTree, HoldsOctets, HoldsValues, HoldsTree, ReadsTree, NeedsMemory, RefusesToRead, ReadsContent, ReadsAny, tag_of}
+use Rattle.bcder.specs.calls.Valued.{HoldsOctets, HoldsValues, HoldsTree, ReadsTree, NeedsMemory, RefusesToRead, ReadsContent, ReadsAny, tag_of, RefusesTree}
 use Rattle.bcder.specs.calls.Valued.{HasTagged, TakesTree, WantsMemoryFor, TakesNextTree, TakesOneTree}
 use Rattle.bcder.specs.calls.Valued as valued
 use Rattle.bcder.specs.laws.Complete.{one_header, one_list, one_end_of_list}
@@ -47,7 +47,7 @@ some_is m n e = cc
 
 same_values : (f : ContentForm) (mode : Mode) (o : Option ℕ) (ts us : Trees) (a b x y : List ℕ) → AreEncodings mode ts a → AreEncodings mode us b
     → ClosesBefore f mode o a x → ClosesBefore f mode o b y → a ++ x ≡ b ++ y → ts ≡ us
-same_values octets mode o ts us a b x y h k c d e = absurd c
+same_values Octets mode o ts us a b x y h k c d e = absurd c
 same_values (values kind.Definite) mode o ts us a b x y h k c d e =
     let s : a ≡ b = same_fronts a b x y e (some_is _ _ (sym c ∙ d)) in
     one_list mode ts us b (subst (AreEncodings mode ts) s h) k
@@ -208,11 +208,11 @@ none_in_der ts s = s
 
 -- no header was passed
 refused_header : {T X : Type 0} (tag : Tag) (Means : Tree → T → Type 0) (c d : Reading) → Within c → (e : DecodeError X)
-    → Refuses cause_of (tagged tag) (NothingThere (tagged tag)) (λ _. ⊥) c e d
-    → Refuses cause_of (tagged tag) (HasNoTree tag Means) (WantsMemoryFor tag Means) c e d
+    → Refuses cause_of (tagged tag) (NothingThere (tagged tag)) ⊥ c e d
+    → RefusesTree tag Means c e d
 refused_header tag Means c d w e (refusals.Refuses.failed s a) = refusals.Refuses.failed s a
 refused_header tag Means c d w e (refusals.Refuses.source s g) = refusals.Refuses.source s g
-refused_header tag Means c d w e (refusals.Refuses.memory k n) = absurd n
+refused_header tag Means c d w e (refusals.Refuses.otherwise n) = absurd n
 refused_header tag Means c d w e (refusals.Refuses.nothing n a) = refusals.Refuses.nothing (record {
   usable = n.usable;
   value = λ t v rest x h k. (let y = tagged_header c w tag t v rest h in n.header y.0 y.1);
@@ -224,7 +224,7 @@ module _ {T X : Type 0} (tag : Tag) (Means : Tree → T → Type 0) (c d : Readi
   pub no_tree : d.mode ≡ c.mode → HasNone (tagged tag) c d → TakesNextTree tag Means {X = X} c (Ok None) d
   no_tree m h = record { value = tt; none = h; no_fault = h.no_fault; refused = tt; failed = tt; mode = m; marked = h.marked }
 
-  pub stopped_tree : Within c → d.mode ≡ c.mode → (e : DecodeError X) → Refuses cause_of (tagged tag) (NothingThere (tagged tag)) (λ _. ⊥) c e d
+  pub stopped_tree : Within c → d.mode ≡ c.mode → (e : DecodeError X) → Refuses cause_of (tagged tag) (NothingThere (tagged tag)) ⊥ c e d
       → d.marked ≡ c.marked → d.state ≡ Failed
       → TakesNextTree tag Means c (Err e) d
   stopped_tree w m e h k f = record { value = tt; none = tt; no_fault = tt; refused = refused_header tag Means c d w e h; failed = f; mode = m; marked = k }
@@ -309,10 +309,10 @@ module _ {C T X : Type 0} (view : C → Reading) (post : Tag → MutBor C → Re
         (constructed_form c.mode f.front.form f.front.len f.handed.kind f.front.is_header.allowed f.hands.form (values_form f.handed ts f.hands.state h))
 
     refused_read : RefusesToRead f.front.tag (Means c.mode) f.handed e f.left
-        → Refuses cause_of (tagged tag) (HasNoTree tag (Means c.mode)) (WantsMemoryFor tag (Means c.mode)) c e d
+        → RefusesTree tag (Means c.mode) c e d
     refused_read (valued.RefusesToRead.failed s a) = absurd (open_not_failed f.handed.state f.hands.state s)
     refused_read (valued.RefusesToRead.source s g) = refusals.Refuses.source s (grew_between _ _ _ _ (no_fewer _ _ f.faults_handed) g f.faults_left)
-    refused_read (valued.RefusesToRead.memory s n) = refusals.Refuses.memory s (needed n)
+    refused_read (valued.RefusesToRead.memory s n) = refusals.Refuses.otherwise (s, needed n)
     refused_read (valued.RefusesToRead.nothing n a) =
         refusals.Refuses.nothing (record {
           usable = f.usable;
@@ -321,13 +321,13 @@ module _ {C T X : Type 0} (view : C → Reading) (post : Tag → MutBor C → Re
         }) (behind_header (tagged tag) c (cause_of e) a f.after f.front)
 
     refused_end : (l : Reading) → IsDone l → l.stream.faults ≡ f.handed.stream.faults → RefusesEnd cause_of l e f.left
-        → Refuses cause_of (tagged tag) (HasNoTree tag (Means c.mode)) (WantsMemoryFor tag (Means c.mode)) c e d
+        → RefusesTree tag (Means c.mode) c e d
     refused_end l o n (left_failed x a) = absurd (not_done l x o)
     refused_end l o n (source_failed s g) = refusals.Refuses.source s (grew_between _ _ _ _ (no_fewer _ _ (n ∙ f.faults_handed)) g f.faults_left)
     refused_end l o n (left_open x a) = absurd (x.none l.stream.rest (done_here l l.kind refl o))
 
     refused_content : RefusesContent cause_of view post f.front.tag f.handed e f.left
-        → Refuses cause_of (tagged tag) (HasNoTree tag (Means c.mode)) (WantsMemoryFor tag (Means c.mode)) c e d
+        → RefusesTree tag (Means c.mode) c e d
     refused_content (by_closure a) = refused_read (answered_reads c.mode f.front.tag f.front.tag f.handed f.left (Err e) a f.hands.mode).refused
     refused_content (unfinished y l a m k z) =
         (let r = answered_reads c.mode f.front.tag f.front.tag f.handed l (Ok y) a f.hands.mode in refused_end l r.done r.no_fault z)
@@ -337,7 +337,7 @@ module _ {C T X : Type 0} (view : C → Reading) (post : Tag → MutBor C → Re
     refused_unmarked (unfinished y l a m k z) = k ∙ (answered_reads c.mode f.front.tag f.front.tag f.handed l (Ok y) a f.hands.mode).marked ∙ f.hands.marked
 
   refused_tree : (c d : Reading) → Within c → (e : DecodeError X) → RefusesTake view post None (tagged tag) c e d
-      → Refuses cause_of (tagged tag) (HasNoTree tag (Means c.mode)) (WantsMemoryFor tag (Means c.mode)) c e d
+      → RefusesTree tag (Means c.mode) c e d
   refused_tree c d w e (by_header h m) = refused_header tag (Means c.mode) c d w e h
   refused_tree c d w e (by_form f a m) = absurd f
   refused_tree c d w e (by_content f) = refused_content c d w e f f.refuses

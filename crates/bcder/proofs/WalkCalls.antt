@@ -8,14 +8,13 @@ use Rattle.bcder.specs.x690.Grammar.{IsOnly}
 use Rattle.bcder.specs.calls.Stream.{Grew}
 use Rattle.bcder.specs.declared.decode.error.ContentError.{ContentError}
 use Rattle.bcder.specs.calls.Cause.{Cause, of_source, IsOfContent}
-use Rattle.bcder.specs.calls.Content.{Reading, any, label}
-use Rattle.bcder.specs.calls.Calls.{Answered, TakesValue, RefusesContent, by_closure, unfinished, RefusesFront, RefusesValue}
-use Rattle.bcder.specs.calls.Calls as calls
+use Rattle.bcder.specs.calls.Content.{Reading, any, label, NothingThere}
+use Rattle.bcder.specs.calls.Calls.{Answered, TakesValue, RefusesContent, by_closure, unfinished, RefusesFront}
 use Rattle.bcder.specs.calls.Walking.{HasNoNext, PassesValue}
 use Rattle.bcder.specs.steps.WalkSteps.{NoValue, WalksBy}
 use Rattle.bcder.specs.laws.Complete.{only_at_front}
 use Rattle.bcder.proofs.Entering.{Within, header_not_at_end, no_fewer}
-use Rattle.bcder.proofs.Naming.{names_front, behind_header}
+use Rattle.bcder.proofs.Naming.{behind_header}
 use Rattle.bcder.specs.calls.Refusals as refusals
 use Rattle.bcder.specs.calls.Refusals.{Refuses}
 use Rattle.bcder.proofs.WalkSteps.{no_next, no_value_of_nothing, end_of_nothing, refused_inside, refused_end as refused_left}
@@ -38,19 +37,20 @@ module _ {C T E : Type 0} (why : E → Cause ContentError) (view : C → Reading
       let w = walks_by f.front.tag f.handed l (Ok y) x in
       inl (refused_left why e c d f.handed f.left f.after f.front f.hands (no_fewer _ _ f.faults_handed) f.faults_left l w.done w.moves z)
 
-  walk_refused : (c d : Reading) (e : E) → Within c → RefusesValue why view post any c e d → Refuses why any HasNoNext (λ _. ⊥) c e d
-  walk_refused c d e w (calls.RefusesValue.failed s a) = refusals.Refuses.failed s a
-  walk_refused c d e w (calls.RefusesValue.source k s) = refusals.Refuses.source k s
-  walk_refused c d e w (calls.RefusesValue.nothing n a) =
-      refusals.Refuses.nothing (no_next c n.usable (no_value_of_nothing c w n) (end_of_nothing c n)) (names_front any c (why e) a)
-  walk_refused c d e w (calls.RefusesValue.content f) = elim (front_refused c d e f f.refuses) [
+  walk_refused : (c d : Reading) (e : E) → Within c
+      → Refuses why any (NothingThere any) (RefusesFront why view post any c e d) c e d → Refuses why any HasNoNext ⊥ c e d
+  walk_refused c d e w (refusals.Refuses.failed s a) = refusals.Refuses.failed s a
+  walk_refused c d e w (refusals.Refuses.source k s) = refusals.Refuses.source k s
+  walk_refused c d e w (refusals.Refuses.nothing n a) =
+      refusals.Refuses.nothing (no_next c n.usable (no_value_of_nothing c w n) (end_of_nothing c n)) a
+  walk_refused c d e w (refusals.Refuses.otherwise f) = elim (front_refused c d e f f.refuses) [
     | inl s ↦ refusals.Refuses.source s.0 s.1
     | inr n ↦ refusals.Refuses.nothing (no_next c f.usable n.0 (header_not_at_end c f.after w f.usable f.front))
         (behind_header any c (why e) n.1 f.after f.front)
   ]
 
-  pub refuses_walk : {U : Type 0} (c d : Reading) (r : Result U E) → Within c → IfErr r (λ e. RefusesValue why view post any c e d)
-      → IfErr r (λ e. Refuses why any HasNoNext (λ _. ⊥) c e d)
+  pub refuses_walk : {U : Type 0} (c d : Reading) (r : Result U E) → Within c → IfErr r (λ e. Refuses why any (NothingThere any) (RefusesFront why view post any c e d) c e d)
+      → IfErr r (λ e. Refuses why any HasNoNext ⊥ c e d)
   refuses_walk c d (Ok x) w h = tt
   refuses_walk c d (Err e) w h = walk_refused c d e w h
 

@@ -14,12 +14,11 @@ use Rattle.bcder.specs.x690.Encoding.{IsEncoding, AreEncodings}
 use Rattle.bcder.specs.calls.Stream.{Grew}
 use Rattle.bcder.specs.declared.decode.error.ContentError.{ContentError}
 use Rattle.bcder.specs.calls.Cause.{Cause, of_source, IsOfContent}
-use Rattle.bcder.specs.calls.Content.{Reading, ContentForm, octets, values, Octets, DefiniteValues, IndefiniteValues, any, HasHeader}
+use Rattle.bcder.specs.calls.Content.{Reading, ContentForm, values, Octets, DefiniteValues, IndefiniteValues, any, HasHeader}
 use Rattle.bcder.specs.calls.Content.{HasMarker, Moves, MovesBy, Falls, FitsOwed, IsDone, IsUsedUp, IsAtEnd, of_octets, of_definite}
-use Rattle.bcder.specs.calls.Content.{of_indefinite, of_unbounded, EndsBefore, EndsAt, NotAtEnd, NothingThere}
+use Rattle.bcder.specs.calls.Content.{of_indefinite, of_unbounded, EndsBefore, NotAtEnd, NothingThere}
 use Rattle.bcder.specs.calls.Calls.{Hands, IsFormOf, ContentOf, RefusesEnd, left_failed, source_failed, left_open}
-use Rattle.bcder.specs.calls.Walking.{HasNoNext, HasValue, PassesValue, ClosesBefore, HasValues, IsShort, AllBy, Walks}
-use Rattle.bcder.specs.calls.Walking as walking
+use Rattle.bcder.specs.calls.Walking.{HasNoNext, HasValue, PassesValue, ClosesBefore, HasValues, IsShort, AllBy, Walks, RefusesValues}
 use Rattle.bcder.specs.laws.Complete.{one_encoding, two_octets, Same}
 use Rattle.bcder.specs.laws.Lists.{First}
 use Rattle.bcder.specs.laws.Moved.{moved_keeps_kind, untouched_is_moved, moved_twice_is_moved}
@@ -86,7 +85,7 @@ first_of m (t ∷ₜ ts) w h = inr (record { tree = t; trees = ts; front = h.0; 
 -- where no values are left, content is at its end
 ends_before : (c : Reading) (f : ContentForm) (all after : List ℕ) → c.kind ≡ f → c.state ≡ Open → ClosesBefore f c.mode c.owed all after → all ≡ []
     → c.stream.rest ≡ all ++ after → (x : List ℕ) × EndsBefore c x
-ends_before c octets all after q s h e r = absurd h
+ends_before c Octets all after q s h e r = absurd h
 ends_before c (values kind.Definite) all after q s h e r = (after, inr (s, of_definite q (h ∙ ap (λ x. Some (length x)) e)))
 ends_before c (values kind.Indefinite) all after q s h e r =
     (h.0, inr (s, of_indefinite q (subst (λ z. HasMarker c.mode z h.0) (sym (r ∙ ap (λ x. x ++ after) e)) h.1)))
@@ -116,7 +115,7 @@ falls_to (Some o) (Some p) a b n f e g = ap Some (let z : o ≡ b = (let y : ◌
 module _ (j k : Reading) (w : Within j) (one : PassesValue j k) (m : MovesBy j k) (mode : k.mode ≡ j.mode) where
   closes_on : (f : ContentForm) (all others after : List ℕ) → ClosesBefore f j.mode j.owed all after → all ≡ one.value ++ others
       → ClosesBefore f j.mode k.owed others after
-  closes_on octets all others after c e = c
+  closes_on Octets all others after c e = c
   closes_on (values kind.Definite) all others after c e =
       let l : length m.passed ≡ length one.value = passed_length m.passed one.value k.stream.rest (sym m.rest ∙ one.has.rest) in
       falls_to j.owed k.owed (length m.passed) (length all) (length others) m.owed c (omega (arith, l, ap length e, length-append one.value others))
@@ -154,7 +153,7 @@ module _ (j k : Reading) (w : Within j) (one : PassesValue j k) (m : MovesBy j k
   falls_from (Some o) (Some p) a b n f e q = ap Some (let z : p ≡ n = (let y : ◌≡◌ {A = Option ℕ} (Some p) (Some n) = e in cc) in omega arith)
 
   closes_back : (f : ContentForm) (others after : List ℕ) → ClosesBefore f j.mode k.owed others after → ClosesBefore f j.mode j.owed (one.value ++ others) after
-  closes_back octets others after c = c
+  closes_back Octets others after c = c
   closes_back (values kind.Definite) others after c =
       let l : length m.passed ≡ length one.value = passed_length m.passed one.value k.stream.rest (sym m.rest ∙ one.has.rest) in
       falls_from j.owed k.owed (length m.passed) (length (one.value ++ others)) (length others) m.owed c (omega (arith, l, length-append one.value others))
@@ -220,12 +219,12 @@ grew_from a b c h g =
 
 -- the loop stops at an error
 pub walks_refused : {E : Type 0} (why : E → Cause ContentError) (e : E) (i j k : Reading) → i.kind ≢ Octets → Walks i j
-    → Refuses why any HasNoNext (λ _. ⊥) j e k
-    → walking.RefusesValues why i e k
-walks_refused why e i j k o w (refusals.Refuses.failed f a) = walking.RefusesValues.failed (w.failed f) a
-walks_refused why e i j k o w (refusals.Refuses.source s f) = walking.RefusesValues.source s (grew_from _ _ _ (moves_faults i j w.moves) f)
-walks_refused why e i j k o w (refusals.Refuses.memory s n) = absurd n
-walks_refused why e i j k o w (refusals.Refuses.nothing n a) = walking.RefusesValues.broken o (λ h. no_values j n (w.remain h))
+    → Refuses why any HasNoNext ⊥ j e k
+    → RefusesValues why i e k
+walks_refused why e i j k o w (refusals.Refuses.failed f a) = refusals.Refuses.failed (w.failed f) a
+walks_refused why e i j k o w (refusals.Refuses.source s f) = refusals.Refuses.source s (grew_from _ _ _ (moves_faults i j w.moves) f)
+walks_refused why e i j k o w (refusals.Refuses.otherwise n) = absurd n
+walks_refused why e i j k o w (refusals.Refuses.nothing n a) = refusals.Refuses.nothing (o, λ h. no_values j n (w.remain h))
     (record { refused = a.refused; named = λ q. (let r = front_named i j (looked_alike i j (w.front q)) (why e) a in r.named q) })
 
 -- and answers the error that it met
@@ -271,7 +270,7 @@ none_left_trees c after o (of_indefinite q m) = refl
 none_left_trees c after o (of_unbounded q e) = refl
 
 -- the loop stops at the end
-pub walks_all : (i j k : Reading) → i.kind ≢ Octets → Walks i j → EndsAt j k → i.state ≡ Open → HasValues i
+pub walks_all : (i j k : Reading) → i.kind ≢ Octets → Walks i j → EndsBefore j k.stream.rest → i.state ≡ Open → HasValues i
 walks_all i j k o w (inl e) s = absurd (open_not_ended i.state s (w.ended e))
 walks_all i j k o w (inr e) s = w.were (none_left j k.stream.rest (λ q. o (sym (moved_keeps_kind i j w.moves) ∙ q)) e.1)
 
@@ -338,9 +337,9 @@ module _ (c i : Reading) (after : List ℕ) (f : HasHeader any c after) (g : Han
   short_front k n = record { none = λ t v x e r. short_shape x k n (shape_in t v x e r) }
 
 -- content that is done is at its end
-pub done_here : (j : Reading) (f : ContentForm) → j.kind ≡ f → IsDone j → EndsAt j j
+pub done_here : (j : Reading) (f : ContentForm) → j.kind ≡ f → IsDone j → EndsBefore j j.stream.rest
 done_here j f e (inl s) = inl s
-done_here j octets e (inr s) = inr (s.0, of_octets e (subst (λ x. IsUsedUp x j.owed j.stream.rest) e s.1))
+done_here j Octets e (inr s) = inr (s.0, of_octets e (subst (λ x. IsUsedUp x j.owed j.stream.rest) e s.1))
 done_here j (values kind.Definite) e (inr s) = inr (s.0, of_definite e (subst (λ x. IsUsedUp x j.owed j.stream.rest) e s.1))
 done_here j (values kind.Indefinite) e (inr s) = absurd (subst (λ x. IsUsedUp x j.owed j.stream.rest) e s.1)
 done_here j (values kind.Unbounded) e (inr s) = inr (s.0, of_unbounded e (subst (λ x. IsUsedUp x j.owed j.stream.rest) e s.1))
@@ -354,11 +353,11 @@ grew_between a b c d h g e = subst (λ x. Grew a x) e (grew_from a b c h g)
 
 module _ {E : Type 0} (why : E → Cause ContentError) (e : E) (c d i j : Reading) (after : List ℕ) (f : HasHeader any c after)
     (g : Hands c.mode f.form f.len f.owed after i) (b : c.stream.faults ≤ i.stream.faults) (s : j.stream.faults ≡ d.stream.faults) where
-  pub refused_inside : walking.RefusesValues why i e j → ((why e ≡ of_source) × Grew c.stream.faults d.stream.faults) ⊎ (NoValue c × IsOfContent (why e))
-  refused_inside (walking.RefusesValues.failed x a) = absurd (open_not_failed i.state g.state x)
-  refused_inside (walking.RefusesValues.source k x) = inl (k, grew_between _ _ _ _ b x s)
-  refused_inside (walking.RefusesValues.broken k n a) = inr (broken_front c i after f g k n, a.refused)
-  refused_inside (walking.RefusesValues.short k n a) = inr (short_front c i after f g k n, a)
+  pub refused_inside : RefusesValues why i e j → ((why e ≡ of_source) × Grew c.stream.faults d.stream.faults) ⊎ (NoValue c × IsOfContent (why e))
+  refused_inside (refusals.Refuses.failed x a) = absurd (open_not_failed i.state g.state x)
+  refused_inside (refusals.Refuses.source k x) = inl (k, grew_between _ _ _ _ b x s)
+  refused_inside (refusals.Refuses.nothing n a) = inr (broken_front c i after f g n.0 n.1, a.refused)
+  refused_inside (refusals.Refuses.otherwise s) = inr (short_front c i after f g s.0 s.1, s.2)
 
   pub refused_end : (l : Reading) → IsDone l → Moves i l → RefusesEnd why l e j → (why e ≡ of_source) × Grew c.stream.faults d.stream.faults
   refused_end l q m (left_failed x a) = absurd (not_failed_done l q x)

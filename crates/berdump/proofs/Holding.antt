@@ -17,6 +17,7 @@ use Rattle.bcder.specs.calls.Content.{Reading, UnboundedValues, IsDone}
 use Rattle.bcder.specs.calls.Walking.{ClosesBefore, HasValues, RefusesValues, AllBy}
 use Rattle.bcder.specs.calls.Skipping.{RefusesSkipAll}
 use Rattle.bcder.specs.calls.Skipping as skipping
+use Rattle.bcder.specs.calls.Refusals as refusals
 use Rattle.bcder.specs.calls.Decoding.{IsAllOf, Decodes, RefusesOn, RefusesDecode}
 use Rattle.bcder.specs.calls.Decoding as decoding
 use Rattle.bcder.specs.calls.Views.{of_constructed}
@@ -119,10 +120,10 @@ module _ {C T S : Type 0} (view : C → Reading) (post : MutBor C → Result T (
 
   no_values : (e : DecodeError S) (i j : Reading) → (cause_of e ≡ of_memory → ⊥) → IsAllOf s mode i → j.stream.faults ≡ 0 → RefusesValues cause_of i e j
       → IsNoList mode s.rest
-  no_values e i j n o f (RefusesValues.failed x y) ts a = let z = o.state in cc
-  no_values e i j n o f (RefusesValues.source m x) ts a = absurd (grew_past i.stream.faults j.stream.faults x f)
-  no_values e i j n o f (RefusesValues.broken x h y) ts a = h (values_there i mode s.rest ts o.kind o.mode (ap (λ (z : Stream). z.rest) o.stream) a)
-  no_values e i j n o f (RefusesValues.short x h y) ts a = let z = o.kind in cc
+  no_values e i j n o f (refusals.Refuses.failed x y) ts a = let z = o.state in cc
+  no_values e i j n o f (refusals.Refuses.source m x) ts a = absurd (grew_past i.stream.faults j.stream.faults x f)
+  no_values e i j n o f (refusals.Refuses.nothing h y) ts a = h.1 (values_there i mode s.rest ts o.kind o.mode (ap (λ (z : Stream). z.rest) o.stream) a)
+  no_values e i j n o f (refusals.Refuses.otherwise h) ts a = let x = h.0 in let z = o.kind in cc
 
   none_skipped : (e : DecodeError S) (i j : Reading) → (cause_of e ≡ of_memory → ⊥) → IsAllOf s mode i → j.stream.faults ≡ 0
       → skipping.RefusesSkipAll cause_of i e j → IsNoList mode s.rest

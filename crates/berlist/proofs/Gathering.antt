@@ -14,10 +14,11 @@ use Rattle.bcder.specs.declared.decode.source.slice.SliceSource.{SliceSource}
 use Rattle.bcder.specs.x690.Tree.{Tree, Trees, no_trees, ◌∷ₜ◌}
 use Rattle.bcder.specs.x690.Encoding.{AreEncodings}
 use Rattle.bcder.specs.x690.Preorder.{Heading, preorder, preorders}
-use Rattle.bcder.specs.calls.Content.{Reading, Octets, UnboundedValues, Moves, IsDone, EndsAt}
-use Rattle.bcder.specs.calls.Walking.{ClosesBefore, HasValues, RefusesValues, Walks}
+use Rattle.bcder.specs.calls.Content.{Reading, Octets, UnboundedValues, Moves, IsDone, EndsBefore}
+use Rattle.bcder.specs.calls.Walking.{ClosesBefore, HasValues, Walks}
 use Rattle.bcder.specs.calls.Skipping.{Steps, Called, SkipsValue, RefusesSkip}
 use Rattle.bcder.specs.calls.Skipping as skipping
+use Rattle.bcder.specs.calls.Refusals as refusals
 use Rattle.bcder.specs.calls.Decoding.{IsAllOf, RefusesOn, RefusesDecode}
 use Rattle.bcder.specs.calls.Decoding as decoding
 use Rattle.bcder.specs.calls.Stream.{Stream, Grew}
@@ -62,7 +63,8 @@ goes_on i j k mid new w g m o s v = record {
 end_lines : (ts : Trees) (mid : List ℕ) → ts ≡ no_trees → mid ++ lines (preorders ts 0) ≡ mid
 end_lines ts mid e = ap (λ z. mid ++ lines (preorders z 0)) e ∙ append-nil mid
 
-pub ends_here : (i j k : Reading) (mid new : List ℕ) → new ≡ mid → i.kind ≢ Octets → GoesOn i j mid → EndsAt j k → i.state ≡ Open → ListsValues i new
+pub ends_here : (i j k : Reading) (mid new : List ℕ) → new ≡ mid → i.kind ≢ Octets → GoesOn i j mid → EndsBefore j k.stream.rest → i.state ≡ Open
+    → ListsValues i new
 ends_here i j k mid new same o g (inl e) s = absurd (open_has_not_ended i.state s (g.walks.ended e))
 ends_here i j k mid new same o g (inr e) s =
     let q : j.kind ≢ Octets = λ q. o (sym (moved_keeps_kind i j g.walks.moves) ∙ q) in
@@ -168,10 +170,10 @@ module _ {C T S : Type 0} (view : C → Reading) (post : MutBor C → Result T (
     (s : Stream) (mode : Mode) where
   no_values : (e : DecodeError S) (i j : Reading) → (IsWant e → ⊥) → IsAllOf s mode i → j.stream.faults ≡ 0 → RefusesAll i e j → IsNoList mode s.rest
   no_values e i j n o f (inl m) ts a = n m
-  no_values e i j n o f (inr (RefusesValues.failed x y)) ts a = let z = o.state in cc
-  no_values e i j n o f (inr (RefusesValues.source k x)) ts a = grew_past i.stream.faults j.stream.faults x f
-  no_values e i j n o f (inr (RefusesValues.broken x h y)) ts a = h (values_there i mode s.rest ts o.kind o.mode (ap (λ (z : Stream). z.rest) o.stream) a)
-  no_values e i j n o f (inr (RefusesValues.short x h y)) ts a = let z = o.kind in cc
+  no_values e i j n o f (inr (refusals.Refuses.failed x y)) ts a = let z = o.state in cc
+  no_values e i j n o f (inr (refusals.Refuses.source k x)) ts a = grew_past i.stream.faults j.stream.faults x f
+  no_values e i j n o f (inr (refusals.Refuses.nothing h y)) ts a = h.1 (values_there i mode s.rest ts o.kind o.mode (ap (λ (z : Stream). z.rest) o.stream) a)
+  no_values e i j n o f (inr (refusals.Refuses.otherwise h)) ts a = let x = h.0 in let z = o.kind in cc
 
   none_listed : (e : DecodeError S) (i j : Reading) → (IsWant e → ⊥) → IsAllOf s mode i → RefusesOn cause_of view post i e j → IsNoList mode s.rest
   none_listed e i j n o (decoding.by_closure a) =

@@ -6,7 +6,7 @@ use Rattle.bcder.specs.declared.decode.content.State.TheVariants.{Open}
 use Rattle.bcder.specs.declared.decode.error.DecodeError.{DecodeError}
 use Rattle.bcder.specs.x690.Preorder.{preorder, preorders}
 use Rattle.bcder.specs.calls.Cause.{cause_of, of_memory}
-use Rattle.bcder.specs.calls.Content.{any, Reading, IsDone, EndsAt}
+use Rattle.bcder.specs.calls.Content.{any, Reading, IsDone, EndsBefore}
 use Rattle.bcder.specs.calls.Refusals as refusals
 use Rattle.bcder.specs.calls.Walking.{HasNoNext, PassesValue, HasValues, RefusesValues}
 use Rattle.berlist.specs.Lines.{lines}
@@ -27,7 +27,7 @@ pub record ListsValues (c : Reading) (text : List ℕ) : Type 0 where
 
 -- why no lines of the next value were gathered: there was no memory, or there is no such value
 abbrev pub RefusesNext : {S : Type 0} → Reading → DecodeError S → Reading → Type 0
-RefusesNext c e d = IsWant e ⊎ refusals.Refuses cause_of any HasNoNext (λ _. ⊥) c e d
+RefusesNext c e d = IsWant e ⊎ refusals.Refuses cause_of any HasNoNext ⊥ c e d
 
 -- why no lines of the values up to the end were gathered: there was no memory, or these aren't values
 abbrev pub RefusesAll : {S : Type 0} → Reading → DecodeError S → Reading → Type 0
@@ -42,7 +42,7 @@ module _ {C : Type 0} (view : C → Reading) (c : Both (MutBor C) (MutBor C)) wh
 
   -- its content was at the end, and is left behind it
   abbrev pub Ends : Type 0
-  Ends = EndsAt (view c.entry.now) (view c.exit.now)
+  Ends = EndsBefore (view c.entry.now) (view c.exit.now).stream.rest
 
   abbrev pub KeepsMode : Type 0
   KeepsMode = (view c.exit.now).mode ≡ (view c.entry.now).mode

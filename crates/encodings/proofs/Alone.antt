@@ -8,7 +8,7 @@ use Rattle.bcder.specs.calls.Cause.{cause_of, of_source}
 use Rattle.bcder.specs.calls.Content.{Reading}
 use Rattle.bcder.specs.calls.Stream.{at_hand}
 use Rattle.bcder.specs.calls.Alone.{RanAlone, RefusedAlone, by_closure, left_octets}
-use Rattle.bcder.specs.calls.Readers.{Reads, MeanNothing, RefusesReading, missing, refused, source, few}
+use Rattle.bcder.specs.calls.Readers.{Reads, MeanNothing, RefusesReading, refused, source, few}
 
 module _ {C T X : Type 0} (view : C → Reading) (post : MutBor C → Result T (DecodeError X) → MutBor C → Type 0) (Means : Mode → List ℕ → T → Type 0)
     (reads : (p : MutBor C) (r : Result T (DecodeError X)) (q : MutBor C) → post p r q
@@ -30,9 +30,9 @@ module _ {C T X : Type 0} (view : C → Reading) (post : MutBor C → Result T (
   refused_alone (Err e) ran = λ own x means. go own x means ran.refuses
     where
       inner : (cause_of e ≡ of_source → ⊥) → (x : T) → Means m w x → (p q : MutBor C) → view p.now ≡ ran.handed
-          → RefusesReading (Means (view p.now).mode) (MeanNothing (Means (view p.now).mode)) (view p.now) e (view q.now) → ⊥
-      inner own x means p q is (missing (source c g)) = own c
-      inner own x means p q is (missing (few s k n)) =
+          → RefusesReading (MeanNothing (Means (view p.now).mode)) (view p.now) e (view q.now) → ⊥
+      inner own x means p q is (source c g) = own c
+      inner own x means p q is (few s k n) =
           let rest : (view p.now).stream.rest ≡ w = ap (λ i. i.stream.rest) is ∙ ap (λ s. s.rest) ran.over.stream ∙ take_all (length w) w (omega arith) in
           let owed : (view p.now).owed ≡ Some (length w) = ap (λ i. i.owed) is ∙ ran.over.owed in
           omega (arith, s.short (length w) owed, ap length rest)

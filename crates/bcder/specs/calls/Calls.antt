@@ -14,7 +14,7 @@ use Rattle.bcder.specs.calls.Cause.{Cause, of_source, IsOfContent}
 use Rattle.bcder.specs.x690.Encoding.{IsHeader, IsEncoding, Header}
 use Rattle.bcder.specs.calls.Stream.{Stream, Grew}
 use Rattle.bcder.specs.calls.Content.{Reading, ContentForm, Octets, DefiniteValues, IndefiniteValues, UnboundedValues, label, Moves}
-use Rattle.bcder.specs.calls.Content.{Advances, Asked, HasHeader, IsDone, EndsAt, NotAtEnd, NothingThere, NamesViolation}
+use Rattle.bcder.specs.calls.Content.{Advances, Asked, HasHeader, IsDone, EndsBefore, NotAtEnd}
 
 -- ---- what a closure gets
 
@@ -60,25 +60,15 @@ pub record IsInside (asked : Asked) (c : Reading) (t : Tag) (i : Reading) : Type
   pub bounded : i.kind ≢ UnboundedValues
   pub shorter : length i.stream.rest + 2 ≤ length c.stream.rest
 
--- ---- what is required of a closure of a tag and content, and of one of content alone
-
-module _ {C : Type 0} (view : C → Reading) (Handed : Tag → Reading → Type 0) where
-  -- the closure may be called on any tag and content that it can get
-  abbrev pub MayBeCalled : (Tag → MutBor C → Type 0) → Type 0
-  MayBeCalled pre = (t : Tag) (p : MutBor C) → Handed t (view p.now) → pre t p
+-- ---- what is required of a closure of content
 
 module _ {C : Type 0} (view : C → Reading) (Handed : Reading → Type 0) where
-  -- the closure may be called on any content that it can get, without a tag
+  -- the closure may be called on any content that it can get
   abbrev pub MayBeCalledOn : (MutBor C → Type 0) → Type 0
   MayBeCalledOn pre = (p : MutBor C) → Handed (view p.now) → pre p
 
-module _ {C R : Type 0} (view : C → Reading) (Handed : Tag → Reading → Type 0) where
-  -- whatever the closure leaves is reached by lawful steps from the content that it got
-  abbrev pub IsLawfulAtAny : (Tag → MutBor C → R → MutBor C → Type 0) → Type 0
-  IsLawfulAtAny post = (t : Tag) (p : MutBor C) (r : R) (q : MutBor C) → Handed t (view p.now) → post t p r q
-      → Moves (view p.now) (view q.now)
-
 module _ {C R : Type 0} (view : C → Reading) (Handed : Reading → Type 0) where
+  -- whatever the closure leaves is reached by lawful steps from the content that it got
   abbrev pub IsLawfulOn : (MutBor C → R → MutBor C → Type 0) → Type 0
   IsLawfulOn post = (p : MutBor C) (r : R) (q : MutBor C) → Handed (view p.now) → post p r q → Moves (view p.now) (view q.now)
 
@@ -104,7 +94,7 @@ module _ {C R : Type 0} (view : C → Reading) where
     pub finishes : Moves left j
     pub marked : j.marked ≡ left.marked
     pub no_fault : j.stream.faults ≡ left.stream.faults
-    pub ends : EndsAt left j
+    pub ends : EndsBefore left j.stream.rest
     pub done : IsDone j
 
 -- why the content that a closure left is refused with e: it failed, it is not at its end, or the source failed;
@@ -156,14 +146,6 @@ pub record RefusesFront {C T E : Type 0} (why : E → Cause ContentError) (view 
   pub faults_left : left.stream.faults ≡ d.stream.faults
   pub marked : d.marked ≡ (c.marked || left.marked)
   pub refuses : RefusesContent why view post front.tag handed e left
-
--- why no value was taken from c, with error e; `why` gives its cause
-pub data RefusesValue {C T E : Type 0} (why : E → Cause ContentError) (view : C → Reading)
-    (post : Tag → MutBor C → Result T E → MutBor C → Type 0) (asked : Asked) (c : Reading) (e : E) (d : Reading) : Type 0 where
-  failed : c.state ≡ Failed → IsOfContent (why e) → RefusesValue why view post asked c e d
-  source : why e ≡ of_source → Grew c.stream.faults d.stream.faults → RefusesValue why view post asked c e d
-  nothing : NothingThere asked c → NamesViolation (why e) c → RefusesValue why view post asked c e d
-  content : RefusesFront why view post asked c e d → RefusesValue why view post asked c e d
 
 -- an asked header comes next, and has the form f
 pub record HasForm (f : Bool) (asked : Asked) (c : Reading) : Type 0 where

@@ -1,12 +1,12 @@
 -- When the next value is captured, and when all values up to the end of content are.
 use Rattle.std.specs.Prelude.{◌≡◌, ◌≢◌, ◌⊎◌, ℕ, ◌≤◌, true, List, [], ◌∷◌, ◌++◌, Option, Result, IfOk}
-use Rattle.std.specs.Prelude.{IfErr, IfSome, IfNone, OnOk, OnErr}
+use Rattle.std.specs.Prelude.{IfErr, OnOk, OnErr}
 use Rattle.std.specs.Borrow.{MutBor}
 use denote.Triple.Both.{Both}
 use Rattle.bcder.specs.declared.decode.content.Constructed.{Constructed}
-use Rattle.bcder.specs.declared.decode.content.State.TheVariants.{Open, Ended, Failed}
+use Rattle.bcder.specs.declared.decode.content.State.TheVariants.{Open, Ended}
 use Rattle.bcder.specs.declared.decode.error.DecodeError.{DecodeError}
-use Rattle.bcder.specs.calls.Cause.{cause_of}
+use Rattle.bcder.specs.calls.Cause.{cause_of, of_memory}
 use Rattle.bcder.specs.declared.mode.Mode.{Mode}
 use Rattle.bcder.specs.x690.Tree.{Tree, Trees}
 use Rattle.bcder.specs.x690.Encoding.{AreEncodings}
@@ -14,9 +14,10 @@ use Rattle.bcder.specs.x690.Preorder.{Heading, preorder}
 use Rattle.bcder.specs.x690.Grammar.{IsOnly}
 use Rattle.bcder.specs.calls.Stream.{Stream}
 use Rattle.bcder.specs.calls.Captured.{Kept, AreWhole}
-use Rattle.bcder.specs.calls.Content.{Reading, Octets, Closes, EndsAt, IsDone, NotAtEnd, any}
+use Rattle.bcder.specs.calls.Content.{Reading, Octets, Closes, IsDone, NotAtEnd, any}
 use Rattle.bcder.specs.calls.Skipping.{HeadersFrom, GoesDeep}
 use Rattle.bcder.specs.calls.Refusals.{Refuses}
+use Rattle.bcder.specs.calls.Takes.{NextBy}
 use Rattle.bcder.specs.calls.Walking.{HasNoNext, HasNoValue, HasValue, PassesValue, ClosesBefore, HasValues, Walks}
 use Rattle.bcder.specs.calls.Views.{before, after}
 
@@ -33,7 +34,7 @@ pub record CapturesBy {X : Type 0} (Q : Reading → Kept → Reading → Type 0)
     (r : Result Kept (DecodeError X)) (d : Reading) : Type 0 where
   pub captured : IfOk r (λ k. Q c k d)
   pub no_fault : OnOk r (d.stream.faults ≡ c.stream.faults)
-  pub refused : IfErr r (λ e. Refuses cause_of any HasNone HasSome c e d)
+  pub refused : IfErr r (λ e. Refuses cause_of any HasNone ((cause_of e ≡ of_memory) × HasSome c) c e d)
   pub as_before : OnErr r (IsAsBefore c d)
   pub mode : d.mode ≡ c.mode
   pub marked : d.marked ≡ c.marked
@@ -43,7 +44,7 @@ pub record PassesBy {T X : Type 0} (Q : Reading → Reading → Type 0) (HasNone
     (r : Result T (DecodeError X)) (d : Reading) : Type 0 where
   pub passed : OnOk r (Q c d)
   pub no_fault : OnOk r (d.stream.faults ≡ c.stream.faults)
-  pub refused : IfErr r (λ e. Refuses cause_of any HasNone IsDeep c e d)
+  pub refused : IfErr r (λ e. Refuses cause_of any HasNone ((cause_of e ≡ of_memory) × IsDeep c) c e d)
   pub marked : d.marked ≡ c.marked
 
 -- headers in these octets, the first at their beginning, lead to a constructed value at a depth of four or more
@@ -79,21 +80,11 @@ pub record CapturesValue (c : Reading) (k : Kept) (d : Reading) : Type 0 where
 
 -- ---- the next value, if there is one
 
--- the next value was captured, or content was at its end, or a value was refused
-pub record CapturesNext {X : Type 0} (c : Reading) (r : Result (Option Kept) (DecodeError X)) (d : Reading) : Type 0 where
-  -- Some: the octets are the one value that comes next
-  pub captured : IfOk r (λ o. IfSome o (λ k. CapturesValue c k d))
-  -- None: content was at its end, whose marker, if any, was taken
-  pub end : IfOk r (λ o. IfNone o (EndsAt c d))
-  pub done : IfOk r (λ o. IfNone o (IsDone d))
-  -- on Ok, the source met no fault
-  pub no_fault : OnOk r (d.stream.faults ≡ c.stream.faults)
-  -- an error says why, and content has failed; memory runs out only if a value comes next, or what does leads to a deep one
-  pub refused : IfErr r (λ e. Refuses cause_of any HasNoNext HasValueOrDeep c e d)
-  pub failed : OnErr r (d.state ≡ Failed)
-  -- the mode and the mark stay
-  pub mode : d.mode ≡ c.mode
-  pub marked : d.marked ≡ c.marked
+-- the next value was captured, or content was at its end, or a value was refused; memory runs out only if a value comes next,
+-- or what does leads to a deep one
+abbrev pub CapturesNext : {X : Type 0} → Reading → Result (Option Kept) (DecodeError X) → Reading → Type 0
+CapturesNext = NextBy any CapturesValue
+    (λ i e j. Refuses cause_of any HasNoNext ((cause_of e ≡ of_memory) × HasValueOrDeep i) i e j)
 
 -- ---- all values
 

@@ -23,11 +23,8 @@ use Rattle.bcder.specs.calls.Violations.{violation_text, ViolatesFront}
 
 -- the form of content: octets, or values whose end is known in one of three ways
 pub data ContentForm : Type 0 where
-  octets : ContentForm
+  Octets : ContentForm
   values : Kind → ContentForm
-
-abbrev pub Octets : ContentForm
-Octets = octets
 
 abbrev pub DefiniteValues : ContentForm
 DefiniteValues = values kind.Definite
@@ -161,7 +158,7 @@ pub record HasOther (t : Tag) (w : List ℕ) : Type 0 where
 
 -- the octets of open content are used up: none is owed, or, without a limit, none is left
 abbrev pub IsUsedUp : ContentForm → Option ℕ → List ℕ → Type 0
-IsUsedUp octets o rest = o ≡ Some 0
+IsUsedUp Octets o rest = o ≡ Some 0
 IsUsedUp (values kind.Definite) o rest = o ≡ Some 0
 IsUsedUp (values kind.Indefinite) o rest = ⊥
 IsUsedUp (values kind.Unbounded) o rest = rest ≡ []
@@ -180,10 +177,6 @@ pub data IsAtEnd (c : Reading) (after : List ℕ) : Type 0 where
 -- content is at its end, and these octets follow
 abbrev pub EndsBefore : Reading → List ℕ → Type 0
 EndsBefore c after = (c.state ≡ Ended) ⊎ (c.state ≡ Open) × IsAtEnd c after
-
--- content c was at its end, and d is what is left of it
-abbrev pub EndsAt : Reading → Reading → Type 0
-EndsAt c d = EndsBefore c d.stream.rest
 
 -- content is not at its end
 pub record NotAtEnd (c : Reading) : Type 0 where
@@ -207,7 +200,7 @@ IsLeft t c d = (d.state ≡ c.state) × (d.stream.rest ≡ c.stream.rest) ⊎ (t
 
 -- no asked value comes next, and content is usable
 abbrev pub IsMissing : Asked → Reading → Reading → Type 0
-IsMissing any c d = EndsAt c d × IsDone d
+IsMissing any c d = EndsBefore c d.stream.rest × IsDone d
 IsMissing (tagged t) c d = IsAbsent (tagged t) c d.stream.rest × IsLeft t c d
 
 -- neither an asked value comes next, nor is there a reason to return that there is none

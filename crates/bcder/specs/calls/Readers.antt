@@ -16,7 +16,7 @@ use Rattle.bcder.specs.calls.Content.{Reading, Octets}
 use Rattle.bcder.specs.calls.Walking.{IsShort}
 use Rattle.bcder.specs.x690.Integer.{AreInteger, IsSmallest, truth}
 use Rattle.bcder.specs.x690.Number.{IsNumber}
-use Rattle.bcder.specs.calls.Views.{octets_before, octets_after, content_before, content_after}
+use Rattle.bcder.specs.calls.Views.{of_primitive, content_before, content_after}
 
 -- ---- what contents octets mean
 
@@ -47,10 +47,13 @@ pub record HasAll (n : ℕ) (c : Reading) : Type 0 where
   pub owed : c.owed ≡ Some n
   pub count : length c.stream.rest ≡ n
 
--- why octets that are owed did not come, with error e
-pub data RefusesTooFew {X : Type 0} (c : Reading) (e : DecodeError X) (d : Reading) : Type 0 where
-  source : cause_of e ≡ of_source → Grew c.stream.faults d.stream.faults → RefusesTooFew c e d
-  few : IsShort c → IsRefusal e → d.stream.faults ≡ c.stream.faults → RefusesTooFew c e d
+-- why contents octets were not read, with error e: the source failed, too few came, or they were refused
+pub data RefusesReading {X : Type 0} (RefusesOctets : List ℕ → DecodeError X → Type 0) (c : Reading) (e : DecodeError X)
+    (d : Reading) : Type 0 where
+  source : cause_of e ≡ of_source → Grew c.stream.faults d.stream.faults → RefusesReading RefusesOctets c e d
+  few : IsShort c → IsRefusal e → d.stream.faults ≡ c.stream.faults → RefusesReading RefusesOctets c e d
+  refused : HasAll (length c.stream.rest) c → RefusesOctets c.stream.rest e → d.stream.faults ≡ c.stream.faults
+      → RefusesReading RefusesOctets c e d
 
 -- the octets mean nothing
 abbrev pub MeanNothing : {T X : Type 0} → (List ℕ → T → Type 0) → List ℕ → DecodeError X → Type 0
@@ -81,11 +84,6 @@ abbrev pub AreNeverRefused : {X : Type 0} → List ℕ → DecodeError X → Typ
 AreNeverRefused w e = ⊥
 
 module _ {T X : Type 0} (Means : List ℕ → T → Type 0) (Refuses : List ℕ → DecodeError X → Type 0) where
-  -- why contents octets were not read, with error e: they did not come, or were refused
-  pub data RefusesReading (c : Reading) (e : DecodeError X) (d : Reading) : Type 0 where
-    missing : RefusesTooFew c e d → RefusesReading c e d
-    refused : HasAll (length c.stream.rest) c → Refuses c.stream.rest e → d.stream.faults ≡ c.stream.faults → RefusesReading c e d
-
   -- contents octets were read as what they mean, and taken; or refused, and left
   pub record Reads (c : Reading) (r : Result T (DecodeError X)) (d : Reading) : Type 0 where
     pub value : IfOk r (λ x. Means c.stream.rest x)
@@ -93,7 +91,7 @@ module _ {T X : Type 0} (Means : List ℕ → T → Type 0) (Refuses : List ℕ 
     pub none_left : OnOk r (d.stream.rest ≡ [])
     pub none_owed : OnOk r (d.owed ≡ Some 0)
     pub no_fault : OnOk r (d.stream.faults ≡ c.stream.faults)
-    pub refused : IfErr r (λ e. RefusesReading c e d)
+    pub refused : IfErr r (λ e. RefusesReading Refuses c e d)
     pub kept : OnErr r (d.stream.rest ≡ c.stream.rest)
     pub still_owed : OnErr r (d.owed ≡ c.owed)
     pub mode : d.mode ≡ c.mode
@@ -104,7 +102,7 @@ pub record LooksAt {T X : Type 0} (Means : List ℕ → T → Type 0) (c : Readi
   pub value : IfOk r (λ x. Means c.stream.rest x)
   pub all : OnOk r (HasAll (length c.stream.rest) c)
   pub no_fault : OnOk r (d.stream.faults ≡ c.stream.faults)
-  pub refused : IfErr r (λ e. RefusesTooFew c e d)
+  pub refused : IfErr r (λ e. RefusesReading AreNeverRefused c e d)
   pub kept : d.stream.rest ≡ c.stream.rest
   pub still_owed : d.owed ≡ c.owed
   pub mode : d.mode ≡ c.mode
@@ -115,15 +113,15 @@ pub record LooksAt {T X : Type 0} (Means : List ℕ → T → Type 0) (c : Readi
 module _ {S T X : Type 0} (stream : S → Stream) (c : Both (MutBor (Primitive S)) (MutBor (Primitive S))) where
   -- read by a reader with its own meaning, which means something or refuses
   abbrev pub ReadBy : (List ℕ → T → Type 0) → (List ℕ → DecodeError X → Type 0) → Result T (DecodeError X) → Type 0
-  ReadBy Means Refuses r = Reads Means Refuses (octets_before stream c) r (octets_after stream c)
+  ReadBy Means Refuses r = Reads Means Refuses (of_primitive stream c.entry.now) r (of_primitive stream c.exit.now)
 
   -- read as what the octets mean, refused exactly if they mean nothing
   abbrev pub ReadOctets : (List ℕ → T → Type 0) → Result T (DecodeError X) → Type 0
-  ReadOctets Means r = ReadBy Means (MeanNothing Means) r
+  ReadOctets Means r = Reads Means (MeanNothing Means) (of_primitive stream c.entry.now) r (of_primitive stream c.exit.now)
 
   -- the octets were lent, and left
   abbrev pub LookedAt : (List ℕ → T → Type 0) → Result T (DecodeError X) → Type 0
-  LookedAt Means r = LooksAt Means (octets_before stream c) r (octets_after stream c)
+  LookedAt Means r = LooksAt Means (of_primitive stream c.entry.now) r (of_primitive stream c.exit.now)
 
 -- ---- octets that are lent to a closure
 

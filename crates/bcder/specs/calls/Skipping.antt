@@ -1,7 +1,7 @@
 -- Passing over values with a closure that is called at each: the calls that it gets, and what such a call promises.
 use Rattle.std.specs.Borrow.{MutBor}
 use Rattle.std.specs.Prelude.{◌≡◌, ◌⊎◌, ℕ, ◌+◌, ◌*◌, ◌≤◌, Bool, true, List, [], ◌∷◌, ◌++◌, length, Option, Result, Ok, Err}
-use Rattle.std.specs.Prelude.{IfOk, IfErr, OnOk, OnErr, IfSome, IfNone}
+use Rattle.std.specs.Prelude.{IfOk, IfErr, OnOk, IfNone}
 use Rattle.std.specs.List.{FoldsTo}
 use denote.Triple.Both.{Both}
 use Rattle.bcder.specs.declared.mode.Mode.{Mode}
@@ -17,16 +17,12 @@ use Rattle.bcder.specs.x690.Encoding.{IsHeader}
 use Rattle.bcder.specs.x690.Preorder.{Heading, preorder}
 use Rattle.bcder.specs.calls.Stream.{Stream}
 use Rattle.bcder.specs.calls.Refusals.{Refuses}
-use Rattle.bcder.specs.calls.Content.{any, Reading, EndsAt, IsDone, NotAtEnd}
-use Rattle.bcder.specs.calls.Walking.{HasNoNext, HasValue, PassesValue, PassedBy, Walks, RefusesValues, AllBy}
-use Rattle.bcder.specs.calls.Takes.{HasNone}
+use Rattle.bcder.specs.calls.Content.{any, Reading, NotAtEnd}
+use Rattle.bcder.specs.calls.Walking.{HasNoNext, HasValue, PassesValue, Walks, RefusesValues, AllBy}
+use Rattle.bcder.specs.calls.Takes.{HasNone, NextBy}
 use Rattle.bcder.specs.calls.Views.{of_constructed}
 
 -- ---- headers of values
-
--- w is some octets, and then v
-abbrev pub IsEndOf : List ℕ → List ℕ → Type 0
-IsEndOf v w = (gap : List ℕ) × (w ≡ gap ++ v)
 
 -- w begins with the header of a value with this heading, and x follows it
 pub record HeaderStands (mode : Mode) (h : Heading) (w x : List ℕ) : Type 0 where
@@ -37,8 +33,8 @@ pub record HeaderStands (mode : Mode) (h : Heading) (w x : List ℕ) : Type 0 wh
 
 -- the headers are in w in this order and without overlap, and z follows somewhere after the last
 abbrev pub HeadersStand : Mode → List Heading → List ℕ → List ℕ → Type 0
-HeadersStand mode [] w z = IsEndOf z w
-HeadersStand mode (h ∷ hs) w z = (v x : List ℕ) × IsEndOf v w × HeaderStands mode h v x × HeadersStand mode hs x z
+HeadersStand mode [] w z = (gap : List ℕ) × (w ≡ gap ++ z)
+HeadersStand mode (h ∷ hs) w z = (v x : List ℕ) × ((gap : List ℕ) × (w ≡ gap ++ v)) × HeaderStands mode h v x × HeadersStand mode hs x z
 
 -- the headers are in w in this order and without overlap, the first at the front
 abbrev pub HeadersFrom : Mode → List Heading → List ℕ → Type 0
@@ -54,10 +50,6 @@ Steps F E = F → Tag → Bool → ℕ → Result (Unit {0}) E → F → Type 0
 -- f was called at each heading in turn, returned Ok each time, and is g then
 abbrev pub Called : {F E : Type 0} → Steps F E → F → List Heading → F → Type 0
 Called step f calls g = FoldsTo (λ p h q. step p h.tag h.constructed h.depth (Ok tt) q) f calls g
-
--- f, as the calls before left it, refused a heading with x
-abbrev pub Refused : {F E : Type 0} → Steps F E → F → Heading → E → F → Type 0
-Refused step f h x g = step f h.tag h.constructed h.depth (Err x) g
 
 -- calls were made over content c, which is d then
 pub record WereCalls (c : Reading) (calls : List Heading) (d : Reading) : Type 0 where
@@ -83,10 +75,10 @@ pub record SkipsValue {F E : Type 0} (step : Steps F E) (c : Reading) (f g : F) 
 pub data RefusesSkip {F X : Type 0} (why : X → Cause ContentError) (step : Steps F ContentError) (c : Reading) (f : F) (e : X) (g : F)
     (d : Reading) : Type 0 where
   -- no value comes next, an earlier one was refused, or the source failed
-  by_content : (calls : List Heading) → Called step f calls g → WereCalls c calls d → Refuses why any HasNoNext (λ _. ⊥) c e d
+  by_content : (calls : List Heading) → Called step f calls g → WereCalls c calls d → Refuses why any HasNoNext ⊥ c e d
       → RefusesSkip why step c f e g d
   -- the closure refused a heading
-  by_closure : (calls : List Heading) (h : Heading) (q : F) (x : ContentError) → Called step f calls q → Refused step q h x g
+  by_closure : (calls : List Heading) (h : Heading) (q : F) (x : ContentError) → Called step f calls q → step q h.tag h.constructed h.depth (Err x) g
       → WereCalls c (calls ++ h ∷ []) d → why e ≡ of_content x → RefusesSkip why step c f e g d
   -- memory ran out for a constructed value at a depth of four or more
   by_memory : (calls : List Heading) (h : Heading) → Called step f (calls ++ h ∷ []) g → WereCalls c (calls ++ h ∷ []) d
@@ -95,20 +87,9 @@ pub data RefusesSkip {F X : Type 0} (why : X → Cause ContentError) (step : Ste
 -- a call passed over the next value, or found the end, or refused; `why` gives the cause of its error
 pub record SkippedBy {F T X : Type 0} (why : X → Cause ContentError) (step : Steps F ContentError) (c : Reading) (f : F)
     (r : Result (Option T) X) (g : F) (d : Reading) : Type 0 where
-  -- Some: the one value that comes next was passed, and the closure was called at its headings
-  pub value : IfOk r (λ o. IfSome o (λ _. SkipsValue step c f g d))
-  -- None: content was at its end, whose marker, if any, was taken, and the closure wasn't called
-  pub end : IfOk r (λ o. IfNone o (EndsAt c d))
-  pub done : IfOk r (λ o. IfNone o (IsDone d))
+  pub next : NextBy any (λ i _ j. SkipsValue step i f g j) (λ i e j. RefusesSkip why step i f e g j) c r d
+  -- None: the closure wasn't called
   pub uncalled : IfOk r (λ o. IfNone o (g ≡ f))
-  -- on Ok, the source met no fault
-  pub no_fault : OnOk r (d.stream.faults ≡ c.stream.faults)
-  -- an error says why no value was passed, and content has failed
-  pub refused : IfErr r (λ e. RefusesSkip why step c f e g d)
-  pub failed : OnErr r (d.state ≡ Failed)
-  -- the mode and the mark stay
-  pub mode : d.mode ≡ c.mode
-  pub marked : d.marked ≡ c.marked
 
 -- a call passed over the next value, which had to be there, or refused
 pub record SkippedValueBy {F T S : Type 0} (step : Steps F ContentError) (c : Reading) (f : F) (r : Result T (DecodeError S)) (g : F)
@@ -130,10 +111,9 @@ pub record GoesDeep (c d : Reading) : Type 0 where
   pub constructed : last.constructed ≡ true
   pub deep : 4 ≤ last.depth
 
--- why no value of c was passed, with error e; `why` gives its cause
-pub data RefusesOne {X : Type 0} (why : X → Cause ContentError) (c : Reading) (e : X) (d : Reading) : Type 0 where
-  by_walk : Refuses why any HasNoNext (λ _. ⊥) c e d → RefusesOne why c e d
-  by_depth : GoesDeep c d → why e ≡ of_memory → RefusesOne why c e d
+-- why no value of c was passed, with error e: none comes next, or memory ran out for a deep one; `why` gives the cause of e
+abbrev pub RefusesOne : {X : Type 0} → (X → Cause ContentError) → Reading → X → Reading → Type 0
+RefusesOne why c e d = Refuses why any HasNoNext ((why e ≡ of_memory) × GoesDeep c d) c e d
 
 -- why values weren't passed up to the end of c, with error e; `why` gives its cause
 pub data RefusesSkipAll {X : Type 0} (why : X → Cause ContentError) (c : Reading) (e : X) (d : Reading) : Type 0 where
@@ -155,7 +135,8 @@ module _ {S F : Type 0} (stream : S → Stream) (step : Steps F ContentError) (c
 
 module _ {S : Type 0} (stream : S → Stream) (c : Both (MutBor (Constructed S)) (MutBor (Constructed S))) where
   abbrev pub SkippedOne : {T X : Type 0} → Result (Option T) (DecodeError X) → Type 0
-  SkippedOne r = PassedBy (RefusesOne cause_of) (of_constructed stream c.entry.now) r (of_constructed stream c.exit.now)
+  SkippedOne r = NextBy any (λ i _ j. PassesValue i j) (RefusesOne cause_of) (of_constructed stream c.entry.now) r
+      (of_constructed stream c.exit.now)
 
   abbrev pub SkippedAll : {T X : Type 0} → Result T (DecodeError X) → Type 0
   SkippedAll r = AllBy (RefusesSkipAll cause_of) (of_constructed stream c.entry.now) r (of_constructed stream c.exit.now)

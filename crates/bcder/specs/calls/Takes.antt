@@ -12,7 +12,7 @@ use Rattle.bcder.specs.calls.Cause.{cause_of, IsRefusal, NamesTag}
 use Rattle.bcder.specs.x690.Identifier.{Tag}
 use Rattle.bcder.specs.calls.Stream.{Stream}
 use Rattle.bcder.specs.calls.Content.{Reading, Asked, any, tagged, IsMissing, NothingThere}
-use Rattle.bcder.specs.calls.Calls.{IsInside, MayBeCalled, IsLawfulAtAny, TakesValue, RefusesFront, HasForm}
+use Rattle.bcder.specs.calls.Calls.{IsInside, MayBeCalledOn, IsLawfulOn, TakesValue, RefusesFront, HasForm}
 use Rattle.bcder.specs.calls.Refusals.{Refuses}
 use Rattle.bcder.specs.calls.Views.{of_constructed, of_primitive, of_content, before, after}
 
@@ -27,6 +27,29 @@ abbrev pub TellsNone : {X : Type 0} → Asked → DecodeError X → Type 0
 TellsNone any e = IsRefusal e
 TellsNone (tagged t) e = NamesTag t e
 
+-- the effect of a call that returns something of the next value, as Gives says, or that there is none
+pub record NextBy {T E : Type 0} (asked : Asked) (Gives : Reading → T → Reading → Type 0) (IsRefused : Reading → E → Reading → Type 0)
+    (c : Reading) (r : Result (Option T) E) (d : Reading) : Type 0 where
+  pub value : IfOk r (λ o. IfSome o (λ x. Gives c x d))
+  pub none : IfOk r (λ o. IfNone o (HasNone asked c d))
+  -- on Ok, the source met no fault
+  pub no_fault : OnOk r (d.stream.faults ≡ c.stream.faults)
+  -- an error says why nothing was returned, and content has failed
+  pub refused : IfErr r (λ e. IsRefused c e d)
+  pub failed : OnErr r (d.state ≡ Failed)
+  -- the mode and the mark stay
+  pub mode : d.mode ≡ c.mode
+  pub marked : d.marked ≡ c.marked
+
+-- the effect of a call that needs the next value: if there is none, the content stays usable
+pub record OneBy {T X : Type 0} (asked : Asked) (Gives : Reading → T → Reading → Type 0)
+    (IsRefused : Reading → DecodeError X → Reading → Type 0) (c : Reading) (r : Result T (DecodeError X)) (d : Reading) : Type 0 where
+  pub value : IfOk r (λ x. Gives c x d)
+  pub no_fault : OnOk r (d.stream.faults ≡ c.stream.faults)
+  pub refused : IfErr r (λ e. HasNone asked c d × TellsNone asked e ⊎ (d.state ≡ Failed) × IsRefused c e d)
+  pub mode : d.mode ≡ c.mode
+  pub marked : d.marked ≡ c.marked
+
 -- a value of the form that a call refuses, if it refuses one, comes next
 abbrev pub HasRefusedForm : Option Bool → Asked → Reading → Type 0
 HasRefusedForm None asked c = ⊥
@@ -36,7 +59,7 @@ module _ {C T X : Type 0} (view : C → Reading) (post : Tag → MutBor C → Re
     (form : Option Bool) (asked : Asked) where
   -- why no value was taken from c, with error e: no asked header was passed, the value has the refused form, or its content was refused
   pub data RefusesTake (c : Reading) (e : DecodeError X) (d : Reading) : Type 0 where
-    by_header : Refuses cause_of asked (NothingThere asked) (λ _. ⊥) c e d → d.marked ≡ c.marked → RefusesTake c e d
+    by_header : Refuses cause_of asked (NothingThere asked) ⊥ c e d → d.marked ≡ c.marked → RefusesTake c e d
     by_form : HasRefusedForm form asked c → IsRefusal e → d.marked ≡ c.marked → RefusesTake c e d
     by_content : RefusesFront cause_of view post asked c e d → RefusesTake c e d
 
@@ -61,27 +84,27 @@ module _ {C T X : Type 0} (view : C → Reading) (post : Tag → MutBor C → Re
 module _ {S : Type 0} (stream : S → Stream) where
   -- the closure may be called on the contents octets that it can get, and moves them
   abbrev pub CallableOnOctets : MutBor (Constructed S) → Asked → (Tag → MutBor (Primitive S) → Type 0) → Type 0
-  CallableOnOctets c asked pre = MayBeCalled (of_primitive stream) (IsInside asked (of_constructed stream c.now)) pre
+  CallableOnOctets c asked pre = (t : Tag) → MayBeCalledOn (of_primitive stream) (IsInside asked (of_constructed stream c.now) t) (pre t)
 
   abbrev pub LawfulOnOctets : {R : Type 0} → MutBor (Constructed S) → Asked
       → (Tag → MutBor (Primitive S) → R → MutBor (Primitive S) → Type 0) → Type 0
-  LawfulOnOctets c asked post = IsLawfulAtAny (of_primitive stream) (IsInside asked (of_constructed stream c.now)) post
+  LawfulOnOctets c asked post = (t : Tag) → IsLawfulOn (of_primitive stream) (IsInside asked (of_constructed stream c.now) t) (post t)
 
   -- the closure may be called on the values inside a constructed value that it can get, and moves them
   abbrev pub CallableOnValues : MutBor (Constructed S) → Asked → (Tag → MutBor (Constructed S) → Type 0) → Type 0
-  CallableOnValues c asked pre = MayBeCalled (of_constructed stream) (IsInside asked (of_constructed stream c.now)) pre
+  CallableOnValues c asked pre = (t : Tag) → MayBeCalledOn (of_constructed stream) (IsInside asked (of_constructed stream c.now) t) (pre t)
 
   abbrev pub LawfulOnValues : {R : Type 0} → MutBor (Constructed S) → Asked
       → (Tag → MutBor (Constructed S) → R → MutBor (Constructed S) → Type 0) → Type 0
-  LawfulOnValues c asked post = IsLawfulAtAny (of_constructed stream) (IsInside asked (of_constructed stream c.now)) post
+  LawfulOnValues c asked post = (t : Tag) → IsLawfulOn (of_constructed stream) (IsInside asked (of_constructed stream c.now) t) (post t)
 
   -- the closure may be called on the content of either form that it can get, and moves it
   abbrev pub CallableOnContent : MutBor (Constructed S) → Asked → (Tag → MutBor (Content S) → Type 0) → Type 0
-  CallableOnContent c asked pre = MayBeCalled (of_content stream) (IsInside asked (of_constructed stream c.now)) pre
+  CallableOnContent c asked pre = (t : Tag) → MayBeCalledOn (of_content stream) (IsInside asked (of_constructed stream c.now) t) (pre t)
 
   abbrev pub LawfulOnContent : {R : Type 0} → MutBor (Constructed S) → Asked
       → (Tag → MutBor (Content S) → R → MutBor (Content S) → Type 0) → Type 0
-  LawfulOnContent c asked post = IsLawfulAtAny (of_content stream) (IsInside asked (of_constructed stream c.now)) post
+  LawfulOnContent c asked post = (t : Tag) → IsLawfulOn (of_content stream) (IsInside asked (of_constructed stream c.now) t) (post t)
 
   module _ {T X : Type 0} (c : Both (MutBor (Constructed S)) (MutBor (Constructed S))) (asked : Asked) where
     -- the next primitive value was taken, if there is one; a constructed one is refused

@@ -1,5 +1,5 @@
 -- Values of a tag, of either form, taken as what they mean.
-use Rattle.std.specs.Prelude.{◌≡◌, ◌≢◌, ◌⊎◌, true, List, ℕ, Some, Option, length, Result, IfOk, IfErr, IfSome, IfNone, OnOk, OnErr}
+use Rattle.std.specs.Prelude.{◌≡◌, ◌≢◌, ◌⊎◌, true, List, ℕ, Some, Option, length, Result, IfOk, IfErr, OnOk}
 use Rattle.std.specs.Borrow.{MutBor}
 use denote.Triple.Both.{Both}
 use Rattle.bcder.specs.declared.mode.Mode.{Mode}
@@ -8,14 +8,14 @@ use Rattle.bcder.specs.declared.decode.content.Constructed.{Constructed}
 use Rattle.bcder.specs.declared.decode.content.Content.{Content}
 use Rattle.bcder.specs.declared.decode.content.State.TheVariants.{Open, Ended, Failed}
 use Rattle.bcder.specs.declared.decode.error.DecodeError.{DecodeError}
-use Rattle.bcder.specs.calls.Cause.{cause_of, of_source, of_memory, IsRefusal, NamesTag}
+use Rattle.bcder.specs.calls.Cause.{cause_of, of_source, of_memory, IsRefusal}
 use Rattle.bcder.specs.x690.Identifier.{Tag}
 use Rattle.bcder.specs.x690.Tree.{Tree, primitive, constructed, Trees, no_trees}
 use Rattle.bcder.specs.calls.Stream.{Stream, Grew}
 use Rattle.bcder.specs.calls.Content.{Reading, Octets, tagged, IsAbsent, IsDone, HasHeader}
 use Rattle.bcder.specs.calls.Refusals.{Refuses}
 use Rattle.bcder.specs.calls.Walking.{HasValue, HasValues}
-use Rattle.bcder.specs.calls.Takes.{HasNone}
+use Rattle.bcder.specs.calls.Takes.{NextBy, OneBy}
 use Rattle.bcder.specs.calls.CapturingValues.{HasValuesOrDeep}
 use Rattle.bcder.specs.x690.OctetString.{AreSegmentsIn}
 use Rattle.bcder.specs.calls.Views.{before, after, content_before, content_after}
@@ -112,24 +112,17 @@ module _ {T : Type 0} (tag : Tag) (Means : Tree → T → Type 0) where
     of_header : c.mode ≢ Der → (after : List ℕ) (h : HasHeader (tagged tag) c after) → h.form ≡ true → WantsMemoryFor c
 
   module _ {X : Type 0} where
-    -- the effect of a call that returns the value, or that there is none with the tag
-    pub record TakesNextTree (c : Reading) (r : Result (Option T) (DecodeError X)) (d : Reading) : Type 0 where
-      pub value : IfOk r (λ o. IfSome o (λ x. TakesTree c x d))
-      pub none : IfOk r (λ o. IfNone o (HasNone (tagged tag) c d))
-      pub no_fault : OnOk r (d.stream.faults ≡ c.stream.faults)
-      pub refused : IfErr r (λ e. Refuses cause_of (tagged tag) HasNoTree WantsMemoryFor c e d)
-      pub failed : OnErr r (d.state ≡ Failed)
-      pub mode : d.mode ≡ c.mode
-      pub marked : d.marked ≡ c.marked
+    -- why no value was taken, with error e: none that means anything comes next, or memory ran out
+    abbrev pub RefusesTree : Reading → DecodeError X → Reading → Type 0
+    RefusesTree c e d = Refuses cause_of (tagged tag) HasNoTree ((cause_of e ≡ of_memory) × WantsMemoryFor c) c e d
 
-    -- the effect of a call that needs the value: if there is none with the tag, the content stays usable
-    pub record TakesOneTree (c : Reading) (r : Result T (DecodeError X)) (d : Reading) : Type 0 where
-      pub value : IfOk r (λ x. TakesTree c x d)
-      pub no_fault : OnOk r (d.stream.faults ≡ c.stream.faults)
-      pub refused : IfErr r (λ e. HasNone (tagged tag) c d × NamesTag tag e
-          ⊎ (d.state ≡ Failed) × Refuses cause_of (tagged tag) HasNoTree WantsMemoryFor c e d)
-      pub mode : d.mode ≡ c.mode
-      pub marked : d.marked ≡ c.marked
+    -- the effect of a call that returns the value, or that there is none with the tag
+    abbrev pub TakesNextTree : Reading → Result (Option T) (DecodeError X) → Reading → Type 0
+    TakesNextTree = NextBy (tagged tag) TakesTree RefusesTree
+
+    -- the effect of a call that needs the value
+    abbrev pub TakesOneTree : Reading → Result T (DecodeError X) → Reading → Type 0
+    TakesOneTree = OneBy (tagged tag) TakesTree RefusesTree
 
 -- ---- of a parameter, from entry to exit; what a value means may depend on the mode
 

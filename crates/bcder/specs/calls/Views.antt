@@ -8,7 +8,7 @@ use Rattle.bcder.specs.declared.decode.content.Content.{Content}
 use Rattle.bcder.specs.declared.decode.content.Content.TheVariants as content
 use Rattle.bcder.specs.declared.decode.content.State.TheVariants as state
 use Rattle.bcder.specs.calls.Stream.{Stream, limited, borrowed}
-use Rattle.bcder.specs.calls.Content.{Reading, octets, values, Carries}
+use Rattle.bcder.specs.calls.Content.{Reading, Octets, values, Carries}
 use denote.Triple.Both.{Both}
 
 module _ {S : Type 0} (stream : S → Stream) where
@@ -30,7 +30,7 @@ module _ {S : Type 0} (stream : S → Stream) where
   of_primitive c = record {
     stream = limited_stream c.source.now;
     owed = c.source.now.limit;
-    kind = octets;
+    kind = Octets;
     state = state.Open;
     mode = c.mode;
     marked = c.marked;

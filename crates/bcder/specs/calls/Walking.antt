@@ -1,7 +1,7 @@
 -- When the next value is there, and when all values up to the end of content are.
 use Rattle.std.specs.Borrow.{MutBor}
-use Rattle.std.specs.Prelude.{◌≡◌, ◌≢◌, ℕ, ◌<◌, List, [], ◌++◌, length, Option, Some, Result, IfOk}
-use Rattle.std.specs.Prelude.{IfErr, OnOk, OnErr, IfSome, IfNone}
+use Rattle.std.specs.Prelude.{◌≡◌, ◌≢◌, ℕ, ◌<◌, List, [], ◌++◌, length, Option, Some, Result}
+use Rattle.std.specs.Prelude.{IfErr, OnOk, OnErr}
 use denote.Triple.Both.{Both}
 use Rattle.bcder.specs.declared.mode.Mode.{Mode}
 use Rattle.bcder.specs.declared.decode.content.Kind.TheVariants as kind
@@ -9,15 +9,16 @@ use Rattle.bcder.specs.declared.decode.content.State.TheVariants.{Open, Ended, F
 use Rattle.bcder.specs.x690.Tree.{Tree, Trees}
 use Rattle.bcder.specs.x690.Encoding.{IsEncoding, AreEncodings}
 use Rattle.bcder.specs.x690.Grammar.{IsOnly}
-use Rattle.bcder.specs.calls.Stream.{Stream, Grew}
+use Rattle.bcder.specs.calls.Stream.{Stream}
 use Rattle.bcder.specs.declared.decode.error.ContentError.{ContentError}
-use Rattle.bcder.specs.calls.Cause.{Cause, cause_of, of_source, IsOfContent}
+use Rattle.bcder.specs.calls.Cause.{Cause, cause_of, IsOfContent}
 use Rattle.bcder.specs.declared.decode.error.DecodeError.{DecodeError}
 use Rattle.bcder.specs.declared.decode.content.Constructed.{Constructed}
 use Rattle.bcder.specs.calls.Views.{of_constructed}
-use Rattle.bcder.specs.calls.Content.{Reading, ContentForm, octets, values, Octets, Moves, HasMarker, EndsAt}
-use Rattle.bcder.specs.calls.Content.{NotAtEnd, IsDone, any, NothingThere, Resembles, NamesFront}
+use Rattle.bcder.specs.calls.Content.{Reading, ContentForm, values, Octets, Moves, HasMarker}
+use Rattle.bcder.specs.calls.Content.{NotAtEnd, IsDone, any, NothingThere, Resembles}
 use Rattle.bcder.specs.calls.Refusals.{Refuses}
+use Rattle.bcder.specs.calls.Takes.{NextBy}
 
 -- ---- one value
 
@@ -45,28 +46,11 @@ pub record PassesValue (c d : Reading) : Type 0 where
   pub only : IsOnly c.mode tree value c.stream.rest
   pub stays : d.state ≡ Open
 
--- a call passed over the next value, or found the end, or refused
-pub record PassedBy {T E : Type 0} (IsRefused : Reading → E → Reading → Type 0) (c : Reading) (r : Result (Option T) E)
-    (d : Reading) : Type 0 where
-  -- Some: the one value that comes next was passed
-  pub value : IfOk r (λ o. IfSome o (λ _. PassesValue c d))
-  -- None: content was at its end, whose marker, if any, was taken
-  pub end : IfOk r (λ o. IfNone o (EndsAt c d))
-  pub done : IfOk r (λ o. IfNone o (IsDone d))
-  -- on Ok, the source met no fault
-  pub no_fault : OnOk r (d.stream.faults ≡ c.stream.faults)
-  -- an error says why no value was passed, and content has failed
-  pub refused : IfErr r (λ e. IsRefused c e d)
-  pub failed : OnErr r (d.state ≡ Failed)
-  -- the mode and the mark stay
-  pub mode : d.mode ≡ c.mode
-  pub marked : d.marked ≡ c.marked
-
 -- ---- all values
 
 -- content of this form ends after the octets w and before the octets `after`
 abbrev pub ClosesBefore : ContentForm → Mode → Option ℕ → List ℕ → List ℕ → Type 0
-ClosesBefore octets mode o w after = ⊥
+ClosesBefore Octets mode o w after = ⊥
 ClosesBefore (values kind.Definite) mode o w after = o ≡ Some (length w)
 ClosesBefore (values kind.Indefinite) mode o w after = (x : List ℕ) × HasMarker mode after x
 ClosesBefore (values kind.Unbounded) mode o w after = after ≡ []
@@ -84,17 +68,13 @@ pub record HasValues (c : Reading) : Type 0 where
 pub record IsShort (c : Reading) : Type 0 where
   pub short : (n : ℕ) → c.owed ≡ Some n → length c.stream.rest < n
 
--- why the octets of a primitive value were not passed, with error e; `why` gives its cause
-pub data RefusesOctets {E : Type 0} (why : E → Cause ContentError) (c : Reading) (e : E) (d : Reading) : Type 0 where
-  failing : why e ≡ of_source → Grew c.stream.faults d.stream.faults → RefusesOctets why c e d
-  few : IsShort c → IsOfContent (why e) → RefusesOctets why c e d
+-- content is not octets, and no values up to its end
+abbrev pub HasNoValues : Reading → Type 0
+HasNoValues c = (c.kind ≢ Octets) × (HasValues c → ⊥)
 
--- why content was not passed to its end, with error e; `why` gives its cause
-pub data RefusesValues {E : Type 0} (why : E → Cause ContentError) (c : Reading) (e : E) (d : Reading) : Type 0 where
-  failed : c.state ≡ Failed → IsOfContent (why e) → RefusesValues why c e d
-  source : why e ≡ of_source → Grew c.stream.faults d.stream.faults → RefusesValues why c e d
-  broken : c.kind ≢ Octets → (HasValues c → ⊥) → NamesFront any (why e) c → RefusesValues why c e d
-  short : c.kind ≡ Octets → IsShort c → IsOfContent (why e) → RefusesValues why c e d
+-- why content was not passed to its end, with error e: it is no values, or too few octets; `why` gives the cause of e
+abbrev pub RefusesValues : {E : Type 0} → (E → Cause ContentError) → Reading → E → Reading → Type 0
+RefusesValues why c e d = Refuses why any HasNoValues ((c.kind ≡ Octets) × IsShort c × IsOfContent (why e)) c e d
 
 -- content was passed to its end, or refused
 pub record AllBy {T E : Type 0} (IsRefused : Reading → E → Reading → Type 0) (c : Reading) (r : Result T E) (d : Reading) : Type 0 where
@@ -131,4 +111,5 @@ module _ {S : Type 0} (stream : S → Stream) (c : Both (MutBor (Constructed S))
 
   -- what a call that passes over the next value promises about content and its result
   abbrev pub PassedNext : {T X : Type 0} → Result (Option T) (DecodeError X) → Type 0
-  PassedNext r = PassedBy (Refuses cause_of any HasNoNext (λ _. ⊥)) (of_constructed stream c.entry.now) r (of_constructed stream c.exit.now)
+  PassedNext r = NextBy any (λ i _ j. PassesValue i j) (Refuses cause_of any HasNoNext ⊥) (of_constructed stream c.entry.now) r
+      (of_constructed stream c.exit.now)

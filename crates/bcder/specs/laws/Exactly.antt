@@ -1,7 +1,7 @@
 -- Exactly when a value is passed, skipped or captured: a call says what came next, by what it returns; so it returns that
 -- whenever this comes next. Each statement is the contract of a function of `src/laws/exactly.rt`.
 use Rattle.std.specs.Borrow.{MutBor}
-use Rattle.std.specs.Prelude.{◌≡◌, ◌⊎◌, ℕ, ◌<◌, true, List, ◌∷◌, ◌++◌, Option, Result, IsOk, IsOkAnd, IsErrAnd}
+use Rattle.std.specs.Prelude.{◌≡◌, ◌⊎◌, ℕ, ◌<◌, true, List, ◌∷◌, ◌++◌, Option, Result, Err, IsOk, IsOkAnd, IsErrAnd}
 use Rattle.std.specs.Prelude.{IsSomeAnd, IsTrue, is_some, is_none}
 use denote.Triple.Both.{Both}
 use Rattle.bcder.specs.declared.decode.content.State.TheVariants.{Open, Ended}
@@ -15,7 +15,7 @@ use Rattle.bcder.specs.calls.Stream.{Stream, Grew}
 use Rattle.bcder.specs.calls.Captured.{Kept}
 use Rattle.bcder.specs.calls.Content.{Reading, EndsBefore}
 use Rattle.bcder.specs.calls.Walking.{HasValue, HasValues, PassedNext}
-use Rattle.bcder.specs.calls.Skipping.{Steps, Called, Refused, SkippedNext, SkippedValue, SkippedOne, SkippedAll}
+use Rattle.bcder.specs.calls.Skipping.{Steps, Called, SkippedNext, SkippedValue, SkippedOne, SkippedAll}
 use Rattle.bcder.specs.calls.CapturingValues.{CapturedOne, CapturedNext, CapturedAll}
 use Rattle.bcder.specs.calls.Views.{before, after}
 
@@ -33,7 +33,7 @@ pub record AnswersNext {T E : Type 0} (c : Reading) (r : Result (Option T) E) (d
 -- f returns Ok at each call along the headings
 abbrev pub AnswersAll : {F E : Type 0} → Steps F E → F → List Heading → Type 0
 AnswersAll {F} {E} step f hs = (calls more : List Heading) (h : Heading) (q g : F) (x : E) → hs ≡ calls ++ h ∷ more → Called step f calls q
-    → Refused step q h x g → ⊥
+    → step q h.tag h.constructed h.depth (Err x) g → ⊥
 
 -- no constructed value is at a depth of four or more
 abbrev pub IsShallow : List Heading → Type 0

@@ -22,7 +22,7 @@ module _ {E : Type 0} (c d : Reading) where
 
   -- why no header was passed
   abbrev pub RefusesNext : (E → Cause ContentError) → Asked → {T : Type 0} → Result T E → Type 0
-  RefusesNext why asked r = IfErr r (λ e. Refuses why asked (NothingThere asked) (λ _. ⊥) c e d)
+  RefusesNext why asked r = IfErr r (λ e. Refuses why asked (NothingThere asked) ⊥ c e d)
 
   -- on Ok, the source met no fault
   abbrev pub MeetsNoFault : {T : Type 0} → Result T E → Type 0
@@ -34,7 +34,7 @@ pub record EntersOctets {E : Type 0} (why : E → Cause ContentError) (t : Tag) 
     (d : Reading) : Type 0 where
   pub entered : IfOk r (λ o. IfSome o (λ n. Enters c (header_of (octets_header t n)) d))
   pub none : IfOk r (λ o. IfNone o (HasNone (tagged t) c d))
-  pub refused : IfErr r (λ e. Refuses why (tagged t) (NothingThere (tagged t)) (λ _. ⊥) c e d
+  pub refused : IfErr r (λ e. Refuses why (tagged t) (NothingThere (tagged t)) ⊥ c e d
       ⊎ HasForm true (tagged t) c × IsOfContent (why e))
   pub failed : OnErr r (d.state ≡ Failed)
   pub mode : d.mode ≡ c.mode

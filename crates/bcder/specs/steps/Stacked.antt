@@ -1,6 +1,6 @@
 -- The values that are open while a value is passed over, and what remains of them.
 use Rattle.std.specs.Prelude.{◌≡◌, ℕ, zero, suc, ◌+◌, ◌-◌, ◌*◌, ◌^◌, ◌<◌, ◌≤◌, Bool, true, false, List, [], ◌∷◌, ◌++◌, length, drop}
-use Rattle.std.specs.Prelude.{Option, Some, None, Result, Ok, IfErr, OnOk, OnErr, option_map, option_and_then, reverse}
+use Rattle.std.specs.Prelude.{Option, Some, None, Result, Ok, Err, IfErr, OnOk, OnErr, option_map, option_and_then, reverse}
 use Rattle.std.specs.Borrow.{MutBor}
 use denote.Triple.Both.{Both}
 use Rattle.smallvec.specs.SmallVec.{SmallVec}
@@ -30,7 +30,7 @@ use Rattle.bcder.specs.calls.Content.{Falls}
 use Rattle.bcder.specs.calls.Calls.{popped}
 use Rattle.bcder.specs.steps.Inside.{limit_inside}
 use Rattle.bcder.specs.steps.Growing.{AreOpen}
-use Rattle.bcder.specs.calls.Skipping.{Steps, Called, Refused, HeadersStand}
+use Rattle.bcder.specs.calls.Skipping.{Steps, Called, HeadersStand}
 
 -- how an open value ends: when nothing is owed any more, with what is owed after it, if there is a limit;
 -- or by end-of-contents octets
@@ -208,7 +208,7 @@ pub record GoneBy {T X : Type 0} (h : Header) (es : List Entry) (s : Stream) (o 
 module _ {F X : Type 0} (step : Steps F ContentError) where
   -- why the content behind a header wasn't entered, after n values were open
   pub data StaysOut (h : Header) (n : ℕ) (s : Stream) (f : F) (e : Interrupt X) (g : F) (t : Stream) : Type 0 where
-    refused : (x : ContentError) → Refused step f (heading h n) x g → e ≡ interrupt.Closure x → StaysOut h n s f e g t
+    refused : (x : ContentError) → step f h.tag h.form n (Err x) g → e ≡ interrupt.Closure x → StaysOut h n s f e g t
     wanted : step f h.tag h.form n (Ok tt) g → h.form ≡ true → 4 ≤ n → interrupt_cause e ≡ of_memory → StaysOut h n s f e g t
     failing : step f h.tag h.form n (Ok tt) g → interrupt_cause e ≡ of_source → Grew s.faults t.faults → StaysOut h n s f e g t
     few : (m : ℕ) → step f h.tag h.form n (Ok tt) g → h.form ≡ false → h.len ≡ len.Definite m → length s.rest < m
@@ -236,7 +236,7 @@ module _ {F X : Type 0} (step : Steps F ContentError) where
         → read_contents (read_list mode) h.tag h.form h.len (cut o s.rest) ≡ None → IsOfContent (interrupt_cause e)
         → Breaks mode h s o f e g t p
     by_closure : (calls before : List Heading) (last : Heading) (q : F) (x : ContentError) → heading h 0 ∷ calls ≡ before ++ last ∷ []
-        → Called step f before q → Refused step q last x g → IsBroken mode h s o calls t p → e ≡ interrupt.Closure x
+        → Called step f before q → step q last.tag last.constructed last.depth (Err x) g → IsBroken mode h s o calls t p → e ≡ interrupt.Closure x
         → Breaks mode h s o f e g t p
     by_memory : (calls before : List Heading) (last : Heading) → heading h 0 ∷ calls ≡ before ++ last ∷ []
         → Called step f (heading h 0 ∷ calls) g → last.constructed ≡ true → 4 ≤ last.depth → IsBroken mode h s o calls t p

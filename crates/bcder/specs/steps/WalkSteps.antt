@@ -18,7 +18,8 @@ use Rattle.bcder.specs.calls.Calls.{TakesContent}
 use Rattle.bcder.specs.steps.Peek.{header_of}
 use Rattle.bcder.specs.calls.Refusals.{Refuses}
 use Rattle.bcder.specs.calls.Content.{Reading, any, Moves, IsDone, Advances, Resembles}
-use Rattle.bcder.specs.calls.Walking.{HasNoNext, PassesValue, PassedBy, RefusesValues, Between}
+use Rattle.bcder.specs.calls.Walking.{HasNoNext, PassesValue, RefusesValues, Between}
+use Rattle.bcder.specs.calls.Takes.{NextBy}
 
 -- the first n octets were passed, and nothing else changed
 pub record PassesOver (c : Reading) (n : ℕ) (d : Reading) : Type 0 where
@@ -68,7 +69,7 @@ module _ {S : Type 0} (stream : S → Stream) (c : Both (MutBor (Constructed S))
 
   -- what a call that passes over the next value did, with a stop in place of an error
   abbrev pub PassedStep : {T X : Type 0} → Result (Option T) (Stop X) → Type 0
-  PassedStep r = PassedBy (Refuses stop_cause any HasNoNext (λ _. ⊥)) (of_constructed stream c.entry.now) r
+  PassedStep r = NextBy any (λ i _ j. PassesValue i j) (Refuses stop_cause any HasNoNext ⊥) (of_constructed stream c.entry.now) r
       (of_constructed stream c.exit.now)
 
   abbrev pub PassedOver : ℕ → Type 0

@@ -74,7 +74,7 @@ loop-captured-preserved g c =
     let q : c.push.new.self.items ≡ xs ++ (x ∷ []) = search rules in
     subst (λ z. SetSoFar Tags (g.T.Type.means i.mode) i z c.in-Ok.octets e) (sym q)
     (subst (λ z. SetSoFar Tags (g.T.Type.means i.mode) i (xs ++ (x ∷ [])) z e) (sym o)
-    (one_more Tags (g.T.Type.means i.mode) i xs last d e r w m n.mode k n.captured x v f n.no_fault n.marked))
+    (one_more Tags (g.T.Type.means i.mode) i xs last d e r w m n.mode k n.value x v f n.no_fault n.marked))
 
 pub returns-then-not-may_follow-clause-took : goal.returns-then-not-may_follow-clause-took
 returns-then-not-may_follow-clause-took g c =
@@ -97,7 +97,7 @@ returns-then-not-may_follow-clause-took g c =
     (subst (λ y. IsNotAfter y c.as_slice-in-Ok-Some.result.now) (sym c.as_slice.ensures)
     (subst (IsNotAfter last) (sym (c.as_slice-in-Ok-Some.ensures ∙ o)) z)) in
     refuses_seen (AreSetOf i.mode Tags (g.T.Type.means i.mode)) (λ (z : Vec g.row.T.Denot Global). z.items) i e c.out_of_order.result
-    (refuses_order Tags (g.T.Type.means i.mode) i xs last d e r w m n.mode c.out_of_order.result k n.captured ne f c.out_of_order.ensures n.marked)
+    (refuses_order Tags (g.T.Type.means i.mode) i xs last d e r w m n.mode c.out_of_order.result k n.value ne f c.out_of_order.ensures n.marked)
 
 pub returns-in-Err-read_value-clause-took : goal.returns-in-Err-read_value-clause-took
 returns-in-Err-read_value-clause-took g c =
@@ -116,7 +116,7 @@ returns-in-Err-read_value-clause-took g c =
     let v : RefusesOctets i.mode Tags (g.T.Type.means i.mode) k.octets f =
     subst (λ z. RefusesOctets z Tags (g.T.Type.means z) k.octets f) c.mode-mode.ensures c.in-Err-read_value.ensures.refused in
     refuses_seen (AreSetOf i.mode Tags (g.T.Type.means i.mode)) (λ (z : Vec g.row.T.Denot Global). z.items) i e f
-    (refuses_value Tags (g.T.Type.means i.mode) i xs last d e r w m n.mode f k n.captured v n.marked)
+    (refuses_value Tags (g.T.Type.means i.mode) i xs last d e r w m n.mode f k n.value v n.marked)
 
 pub returns-in-Ok-None-clause-took : goal.returns-in-Ok-None-clause-took
 returns-in-Ok-None-clause-took g c =

@@ -4,7 +4,7 @@ ghost use Rattle.bcder.specs.calls.Calls.{AnswersDone, IsLawfulOn, MayBeCalledOn
 ghost use Rattle.bcder.specs.calls.Calls.{RefusesEnd, Untagged};
 ghost use Rattle.bcder.specs.calls.Cause.{cause_of};
 ghost use Rattle.bcder.specs.steps.StopCause.{stop_cause};
-ghost use Rattle.bcder.specs.calls.Content.{Reading, Moves, FitsOwed, EndsAt, IsDone};
+ghost use Rattle.bcder.specs.calls.Content.{Reading, Moves, FitsOwed, EndsBefore, IsDone};
 ghost use Rattle.bcder.specs.steps.Entering.{MeetsNoFault};
 ghost use Rattle.bcder.specs.steps.Inside.{kind_behind, limit_inside, limit_outside, IsBehind};
 ghost use Rattle.bcder.specs.steps.Inside.{IsTaken};
@@ -82,7 +82,7 @@ trait Inside {
         ensures marked { (view self.new).marked ≡ (view self.old).marked }
         ensures no_fault { MeetsNoFault (view self.old) (view self.new) result }
         ensures done { OnOk result (IsDone (view self.new)) }
-        ensures end { OnOk result (EndsAt (view self.old) (view self.new)) }
+        ensures end { OnOk result (EndsBefore (view self.old) (view self.new).stream.rest) }
         ensures refused { IfErr result (λ e.
             RefusesEnd cause_of (view self.old) e (view self.new)) };
 
@@ -158,7 +158,7 @@ impl<'a, S: Source> Constructed<'a, S> {
         ensures marked { self.new.marked ≡ self.old.marked }
         ensures no_fault { MeetsNoFault (before S.stream self) (after S.stream self) result }
         ensures done { OnOk result (IsDone (after S.stream self)) }
-        ensures end { OnOk result (EndsAt (before S.stream self) (after S.stream self)) }
+        ensures end { OnOk result (EndsBefore (before S.stream self) (after S.stream self).stream.rest) }
         ensures refused { IfErr result (λ e.
             RefusesEnd stop_cause (before S.stream self) e (after S.stream self)) }
     {

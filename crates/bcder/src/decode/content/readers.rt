@@ -3,7 +3,7 @@ ghost use Rattle.std.specs.Prelude.{◌≡◌, ◌≤◌, [], false, Some, IfOk,
 ghost use Rattle.std.specs.Int.{w8, w16, w32, w64, w128};
 ghost use Rattle.bcder.specs.x690.Number.{IsNumber};
 ghost use Rattle.bcder.specs.x690.Integer.{truth, IsSmallest, Leads};
-ghost use Rattle.bcder.specs.calls.Readers.{HasAll, RefusesTooFew, ReadBy};
+ghost use Rattle.bcder.specs.calls.Readers.{AreNeverRefused, HasAll, RefusesReading, ReadBy};
 ghost use Rattle.bcder.specs.calls.Readers.{ReadOctets, FindNoMemory};
 ghost use Rattle.bcder.specs.calls.Readers.{IsSigned, IsUnsigned, IsTruth, IsNull, Told, Untold};
 ghost use Rattle.bcder.specs.calls.Readers.{LookedAt, ToldOf};
@@ -57,7 +57,8 @@ impl<'a, S: Source> Primitive<'a, S> {
             (octets_after S.stream self).stream.faults
             ≡ (octets_before S.stream self).stream.faults) }
         ensures refused { IfErr result (λ e.
-            RefusesTooFew (octets_before S.stream self) e (octets_after S.stream self)) }
+            RefusesReading AreNeverRefused (octets_before S.stream self) e
+            (octets_after S.stream self)) }
         ensures rest { (octets_after S.stream self).stream.rest
             ≡ (octets_before S.stream self).stream.rest }
         ensures owed { (octets_after S.stream self).owed ≡ (octets_before S.stream self).owed }

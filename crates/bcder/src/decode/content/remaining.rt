@@ -1,8 +1,8 @@
 //! The octets that remain of a primitive value.
 ghost use Rattle.std.specs.Prelude.{◌≡◌, [], length, Some, IfErr, OnOk, OnErr};
-ghost use Rattle.bcder.specs.calls.Cause.{cause_of, IsRefusal};
+ghost use Rattle.bcder.specs.calls.Cause.{IsRefusal};
 ghost use Rattle.bcder.specs.calls.Stream.{limit_or};
-ghost use Rattle.bcder.specs.calls.Walking.{RefusesOctets};
+ghost use Rattle.bcder.specs.calls.Readers.{AreNeverRefused, RefusesReading};
 ghost use Rattle.bcder.specs.calls.Views.{of_primitive, octets_before, octets_after, MovedOctets};
 
 use super::Primitive;
@@ -39,7 +39,8 @@ impl<'a, S: Source> Primitive<'a, S> {
             (octets_after S.stream self).stream.faults
             ≡ (octets_before S.stream self).stream.faults) }
         ensures refused { IfErr result (λ e.
-            RefusesOctets cause_of (octets_before S.stream self) e (octets_after S.stream self)) }
+            RefusesReading AreNeverRefused (octets_before S.stream self) e
+            (octets_after S.stream self)) }
         ensures kept { OnErr result (
             (octets_after S.stream self).stream.rest
             ≡ (octets_before S.stream self).stream.rest) }

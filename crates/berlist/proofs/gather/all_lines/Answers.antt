@@ -1,5 +1,5 @@
 use Rattle.std.proofs.Common.{arith, rules, string_bytes}
-use Rattle.bcder.specs.calls.Content.{EndsAt}
+use Rattle.bcder.specs.calls.Content.{EndsBefore}
 use Rattle.bcder.specs.calls.Views.{of_constructed}
 use Rattle.bcder.specs.laws.Moved.{moved_carries, untouched_is_moved, moved_twice_is_moved}
 use Rattle.bcder.proofs.Lemmas.{constructed_is_within_owed, constructed_is_not_octets, refused_as_met, where_some, where_none, shorter_by_a_value}
@@ -50,4 +50,4 @@ returns-clause-listed g c s =
     let j = of_constructed g.S.Source.stream c.loop-text.cons in
     let k = of_constructed g.S.Source.stream c.next_lines.new.cons in
     ends_here i j k _ _ (search rules) (constructed_is_not_octets g.S.Source.stream c.args.cons.now) c.loop-text.invariant
-    (where_none (EndsAt j k) _ c.if-is_some.ensures c.in_ok-next_lines.ensures.end) s
+    (where_none (EndsBefore j k.stream.rest) _ c.if-is_some.ensures c.in_ok-next_lines.ensures.end) s

@@ -1,6 +1,7 @@
 use Rattle.std.proofs.Common.{◌∙◌, refl, arith}
 use Rattle.bcder.specs.calls.Cause.{cause_of}
-use Rattle.bcder.specs.calls.Content.{EndsAt, IsDone}
+use Rattle.bcder.specs.calls.Content.{any}
+use Rattle.bcder.specs.calls.Takes.{HasNone}
 use Rattle.bcder.specs.calls.Walking.{PassesValue}
 use Rattle.bcder.specs.calls.Views.{of_constructed}
 use Rattle.bcder.specs.laws.Moved.{moved_carries, untouched_is_moved, moved_twice_is_moved}
@@ -63,10 +64,10 @@ returns-clause-skipped g c =
     let i = of_constructed g.S.Source.stream c.args.self.now in
     let j = of_constructed g.S.Source.stream c.loop.self in
     let k = of_constructed g.S.Source.stream c.skip_one.new.self in
+    let n = none_value (HasNone any j k) _ c.if-is_some.ensures c.in_ok-skip_one.ensures.skipped.none in
     record {
-      all = λ s. walks_all i j k (constructed_form g.S.Source.stream c.args.self.now) c.loop.invariant.walks
-          (none_value (EndsAt j k) _ c.if-is_some.ensures c.in_ok-skip_one.ensures.skipped.end) s;
-      done = none_value (IsDone k) _ c.if-is_some.ensures c.in_ok-skip_one.ensures.skipped.done;
+      all = walks_all i j k (constructed_form g.S.Source.stream c.args.self.now) c.loop.invariant.walks n.missing.0;
+      done = n.missing.1;
       no_fault = c.in_ok-skip_one.ensures.skipped.no_fault ∙ c.loop.invariant.no_fault;
       refused = tt;
       failed = tt;

@@ -2,7 +2,6 @@ use Rattle.std.proofs.Common.{refl, sym, ◌∙◌}
 use Rattle.std.specs.Prelude.{Ok, Err, Some, None}
 use Rattle.bcder.specs.calls.Cause.{cause_of}
 use Rattle.bcder.specs.calls.Refusals.{source}
-use Rattle.bcder.specs.calls.Skipping.{by_walk}
 use Rattle.bcder.specs.calls.Views.{of_constructed}
 use Rattle.bcder.specs.laws.Moved.{moved_twice_is_moved}
 use Rattle.bcder.proofs.BorrowedContent.{moves_behind, skipped_behind}
@@ -84,6 +83,6 @@ unfolding of_constructed
 returns-in-Err-clause-skipped g c =
     let p = c.in-Err.ensures.passed in
     let w = refused_at_once cause_of _ _ (of_constructed g.S.Source.stream c.pass_shallow.new.self) c.stop_error.result
-    (by_walk (source (c.stop_error.ensures ∙ p.fault.0) p.fault.1)) p.failed p.mode p.marked in
+    (source (c.stop_error.ensures ∙ p.fault.0) p.fault.1) p.failed p.mode p.marked in
     skipped_behind c.args.self.now.source.ghost_name _ _ _ refl refl refl w.failed refl refl refl c.pass_shallow.ensures.moves w.mode w.marked cause_of
     (Err c.stop_error.result) w

@@ -178,7 +178,7 @@ unfolding of_constructed
 returns-in-Ok-None-clause-skipped g c =
     let n = rw c.in-Ok-None.field-0-is at c.in-Ok-None.ensures.none in
     skipped_end cause_of _ (of_constructed g.S.Source.stream c.args.self.now) (of_constructed g.S.Source.stream c.next_header.new.self) c.args.op.now
-    c.next_header.ensures.mode c.next_header.ensures.marked n.missing.0 n.missing.1 n.no_fault
+    c.next_header.ensures.mode c.next_header.ensures.marked n
 
 pub returns-in-Err-clause-moves : goal.returns-in-Err-clause-moves
 returns-in-Err-clause-moves g c =

@@ -1,5 +1,6 @@
 use Rattle.std.proofs.Common.{◌∙◌, arith, refl}
-use Rattle.bcder.specs.calls.Content.{EndsAt, IsDone}
+use Rattle.bcder.specs.calls.Content.{any}
+use Rattle.bcder.specs.calls.Takes.{HasNone}
 use Rattle.bcder.specs.calls.Walking.{PassesValue}
 use Rattle.bcder.specs.calls.Views.{of_constructed}
 use Rattle.bcder.specs.laws.Moved.{untouched_is_moved, moved_twice_is_moved, moved_carries}
@@ -54,11 +55,11 @@ returns-clause-passed g c =
     let j = of_constructed g.S.Source.stream c.loop.cons in
     let k = of_constructed g.S.Source.stream c.skip_one.new.self in
     let p = c.in_ok-skip_one.ensures.skipped in
+    let n = none_value (HasNone any j k) _ c.if-is_some.ensures p.none in
     record {
       passed = record {
-        done = none_value (IsDone k) _ c.if-is_some.ensures p.done;
-        all = walks_all i j k (constructed_form g.S.Source.stream c.args.cons.now) c.loop.invariant.walks
-            (none_value (EndsAt j k) _ c.if-is_some.ensures p.end);
+        done = n.missing.1;
+        all = walks_all i j k (constructed_form g.S.Source.stream c.args.cons.now) c.loop.invariant.walks n.missing.0;
       };
       no_fault = p.no_fault ∙ c.loop.invariant.no_fault;
       refused = tt;

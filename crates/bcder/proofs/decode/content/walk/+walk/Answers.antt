@@ -2,8 +2,9 @@ use Rattle.std.proofs.Common.{rules, false, ◌≡◌, ◌∙◌, ◌+◌, ◌�
 use Rattle.std.specs.Prelude.{Ok, Some}
 use Rattle.bcder.specs.declared.length.Length.TheVariants.{Definite, Indefinite}
 use Rattle.bcder.specs.steps.StopCause.{stop_cause}
-use Rattle.bcder.specs.calls.Content.{any, FitsOwed, IsDone, octets, values}
-use Rattle.bcder.specs.calls.Calls.{content}
+use Rattle.bcder.specs.calls.Content.{any, FitsOwed, Octets, values}
+use Rattle.bcder.specs.calls.Takes.{HasNone}
+use Rattle.bcder.specs.calls.Refusals.{otherwise}
 use Rattle.bcder.specs.steps.Peek.{is_constructed, len_of, header_of}
 use Rattle.bcder.specs.calls.Walking.{PassesValue, RefusesValues}
 use Rattle.bcder.specs.steps.WalkSteps.{itself, walked}
@@ -44,8 +45,7 @@ step-returns-in-Ok-clause-passed g t c =
           (taken_value (of_constructed g.S.Source.stream c.args.cons.now) (of_constructed g.S.Source.stream c.next_header.new.self)
           (of_constructed g.S.Source.stream c.pass_content.new.cons) (header_of c.in-Ok-Some.header) any refl e stop_cause itself
           (walked stop_cause) _ refl refl refl _ c.in-Ok.ensures.taken);
-      end = tt;
-      done = tt;
+      none = tt;
       no_fault = c.in-Ok.ensures.no_fault ∙ c.in-Ok-Some.ensures.no_fault;
       refused = tt;
       failed = tt;
@@ -66,13 +66,12 @@ step-returns-in-Err-pass_content-clause-passed g t c =
     let e = (rw c.in-Ok-Some.field-0-is at c.in-Ok-Some.ensures.entered).1 in
     record {
       value = tt;
-      end = tt;
-      done = tt;
+      none = tt;
       no_fault = tt;
       refused =
           step_refused stop_cause (of_constructed g.S.Source.stream c.args.cons.now) (of_constructed g.S.Source.stream c.pass_content.new.cons) _
           (within_constructed g.S.Source.stream g.met.S.Source.sound c.args.cons.now)
-          (content (refused_front (of_constructed g.S.Source.stream c.args.cons.now) (of_constructed g.S.Source.stream c.next_header.new.self)
+          (otherwise (refused_front (of_constructed g.S.Source.stream c.args.cons.now) (of_constructed g.S.Source.stream c.next_header.new.self)
           (of_constructed g.S.Source.stream c.pass_content.new.cons) (header_of c.in-Ok-Some.header) any refl e stop_cause itself
           (walked stop_cause) _ c.in-Err-pass_content.ensures.taken));
       failed = c.pass_content.ensures.state ∙ e.opened;
@@ -84,8 +83,7 @@ pub step-returns-in-Err-clause-passed : goal.step-returns-in-Err-clause-passed
 unfolding of_constructed
 step-returns-in-Err-clause-passed g t c = record {
   value = tt;
-  end = tt;
-  done = tt;
+  none = tt;
   no_fault = tt;
   refused = next_refused stop_cause (of_constructed g.S.Source.stream c.args.cons.now) (of_constructed g.S.Source.stream c.next_header.new.self) _
       (within_constructed g.S.Source.stream g.met.S.Source.sound c.args.cons.now) c.in-Err.ensures.refused;
@@ -143,7 +141,7 @@ walk_over-returns-in_err-step-clause-ran g t c u =
     let k = of_constructed g.S.Source.stream c.step.new.cons in
     let name = moves_constructed_name g.S.Source.stream c.loop.cons c.step.new.cons c.step.ensures.moves in
     let r = walks_refused stop_cause _ _ j k
-    (λ e. (let x : values c.args.kind ≡ octets = sym (ap values c.over-cons.ensures.kind) ∙ e in cc))
+    (λ e. (let x : values c.args.kind ≡ Octets = sym (ap values c.over-cons.ensures.kind) ∙ e in cc))
     c.loop.invariant.walks c.in_err-step.ensures.passed.refused in
     let p = all_refused (RefusesValues stop_cause) _ k c.from_residual.result _ c.from_residual.ensures.1 r c.in_err-step.ensures.passed.failed
     (c.in_err-step.ensures.passed.mode ∙ c.loop.invariant.walks.mode) (c.in_err-step.ensures.passed.marked ∙ c.loop.invariant.walks.marked) in
@@ -179,7 +177,8 @@ walk_over-returns-clause-ran g t c u =
     let k = of_constructed g.S.Source.stream c.step.new.cons in
     let name = moves_constructed_name g.S.Source.stream c.loop.cons c.step.new.cons c.step.ensures.moves in
     ran_values stop_cause _ k _ (moved_twice_is_moved _ j k c.loop.invariant.walks.moves c.in_ok-step.ensures.moves)
-    (c.in_ok-step.ensures.passed.marked ∙ c.loop.invariant.walks.marked) (none_value (IsDone k) _ c.if-is_some.ensures c.in_ok-step.ensures.passed.done) tt
+    (c.in_ok-step.ensures.passed.marked ∙ c.loop.invariant.walks.marked)
+    (none_value (HasNone any j k) _ c.if-is_some.ensures c.in_ok-step.ensures.passed.none).missing.1 tt
     (limited_stream g.S.Source.stream c.args.source.now) _ c.args.source.now.limit _ (values c.args.kind) c.args.mode u
     (ap (limited_stream g.S.Source.stream) c.over-cons.ensures.source) (ap (λ s. s.limit) c.over-cons.ensures.source) (ap values c.over-cons.ensures.kind)
     c.over-cons.ensures.state c.over-cons.ensures.mode c.over-cons.ensures.marked (search rules) (search rules)

@@ -20,7 +20,7 @@ returns-in-Ok-clause-passed g c =
     let p = looked_next stop_cause (of_constructed g.S.Source.stream c.args.cons.now) (of_constructed g.S.Source.stream c.pass_at_hand.new.self)
     (of_constructed g.S.Source.stream c.walk_copy.new.cons)
     (c.in-Ok-false.ensures.passed.same c.in-Ok-false.field-0-test) c.in-Ok-false.ensures.passed.no_fault (Ok c.in-Ok.passed) c.in-Ok.ensures.passed in
-    record { value = p.value; end = p.end; done = p.done; no_fault = p.no_fault; refused = tt; failed = tt; mode = p.mode; marked = p.marked }
+    record { value = p.value; none = p.none; no_fault = p.no_fault; refused = tt; failed = tt; mode = p.mode; marked = p.marked }
 
 pub returns-in-Err-walk_copy-clause-moves : goal.returns-in-Err-walk_copy-clause-moves
 returns-in-Err-walk_copy-clause-moves g c = moved_carries _ _ (moved_twice_is_moved _ _ _ c.pass_at_hand.ensures.moves c.walk_copy.ensures.moves)
@@ -32,8 +32,7 @@ returns-in-Err-walk_copy-clause-passed g c =
     c.in-Ok-false.ensures.passed.no_fault (Err c.in-Err-walk_copy.stop) c.in-Err-walk_copy.ensures.passed in
     record {
       value = tt;
-      end = tt;
-      done = tt;
+      none = tt;
       no_fault = tt;
       refused = walk_stopped stop_cause cause_of _ _ c.stop_error.ensures _ _ p.refused;
       failed = p.failed;
@@ -49,8 +48,7 @@ returns-in-Err-clause-passed g c =
     let p = c.in-Err.ensures.passed in
     record {
       value = tt;
-      end = tt;
-      done = tt;
+      none = tt;
       no_fault = tt;
       refused = source (c.stop_error-in-Err.ensures ∙ p.fault.0) p.fault.1;
       failed = p.failed;

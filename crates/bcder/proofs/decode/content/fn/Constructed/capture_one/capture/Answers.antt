@@ -10,19 +10,22 @@ use Rattle.bcder.proofs.CapturingValues.{end_has_none, one_refused}
 use Rattle.bcder.proofs.decode.content.fn.Constructed.capture_one.capture.Goals as goal
 
 pub returns-in-Ok-None : goal.returns-in-Ok-None
-returns-in-Ok-None g c = record {
-  moves = c.skip_one.ensures.moves;
-  passed = record {
-    passed = tt;
-    no_fault = tt;
-    refused = nothing (end_has_none (of_captured g.S.Source.stream c.args.cons.now) (of_captured g.S.Source.stream c.skip_one.new.self)
-        (within_constructed (capturing (limited_stream g.S.Source.stream)) (λ s. ahead_sound s.source.ghost_name s.pos (limited_stream g.S.Source.stream
-        s.source.now) (limited_sound s.source.now.limit (g.S.Source.stream s.source.now.source) (g.met.S.Source.sound s.source.now.source))) c.args.cons.now)
-        (rw c.in-Ok-None.field-0-is at c.in-Ok-None.ensures.skipped.end)) (names_end (of_captured g.S.Source.stream c.args.cons.now) (cause_of c.refusal.result)
-        c.refusal.ensures (of_captured g.S.Source.stream c.skip_one.new.self).stream.rest (rw c.in-Ok-None.field-0-is at c.in-Ok-None.ensures.skipped.end));
-    marked = c.skip_one.ensures.skipped.marked;
-  };
-}
+returns-in-Ok-None g c =
+    let n = rw c.in-Ok-None.field-0-is at c.in-Ok-None.ensures.skipped.none in
+    record {
+      moves = c.skip_one.ensures.moves;
+      passed = record {
+        passed = tt;
+        no_fault = tt;
+        refused = nothing (end_has_none (of_captured g.S.Source.stream c.args.cons.now) (of_captured g.S.Source.stream c.skip_one.new.self)
+            (within_constructed (capturing (limited_stream g.S.Source.stream)) (λ s. ahead_sound s.source.ghost_name s.pos (limited_stream g.S.Source.stream
+            s.source.now) (limited_sound s.source.now.limit (g.S.Source.stream s.source.now.source) (g.met.S.Source.sound s.source.now.source)))
+            c.args.cons.now) n.missing.0)
+            (names_end (of_captured g.S.Source.stream c.args.cons.now) (cause_of c.refusal.result)
+            c.refusal.ensures (of_captured g.S.Source.stream c.skip_one.new.self).stream.rest n.missing.0);
+        marked = c.skip_one.ensures.skipped.marked;
+      };
+    }
 
 pub returns-in-Err : goal.returns-in-Err
 returns-in-Err g c = record {
