@@ -8,9 +8,12 @@ ghost use Rattle.std.specs.Prelude.{◌≡◌, ◌≢◌, ◌≤◌, ◌+◌, �
 
 /// Measures values for the first time, before any of them is written.
 ///
-/// This and [`Again`] do the same. They are compiled apart, so that at each level of values one
-/// place measures first, and a compiler puts all levels into one function.
+/// This, [`InCer`] and [`Again`] do the same. They are compiled apart, so that at each level of
+/// values one place measures first, and a compiler puts all levels into one function.
 pub(crate) struct First;
+
+/// Measures values for the first time in CER, where no size is noted.
+pub(crate) struct InCer;
 
 /// Measures values once more, since their sizes weren't noted.
 pub(crate) struct Again;

@@ -19,7 +19,7 @@ pub(crate) mod slice;
 mod tuples;
 
 use crate::captured::Captured;
-use crate::encode::sizes::{First, Sizes, SizesLeft};
+use crate::encode::sizes::{First, InCer, Sizes, SizesLeft};
 use crate::encode::slot::{Failed, into_result, slot, store};
 use crate::encode::values::constructed::Constructed;
 use crate::encode::{EncodeError, WriteError};
@@ -227,6 +227,8 @@ impl<E: Encoder> Values for E {
 }
 
 /// Returns the number of octets of what is written next, and notes the sizes that writing needs.
+///
+/// CER has a call of its own, so that what is compiled for it has nothing that only lengths need.
 #[inline(always)]
 fn measure_first<E: Encoder>(
     encoder: &E,
@@ -238,7 +240,10 @@ fn measure_first<E: Encoder>(
     ensures sized { SizeOfValues (E.all encoder.now mode) (E.lacks encoder.now mode) result }
     ensures noted { IfOk result (λ _. MayRead (E.takes encoder.now mode) (noted sizes.new)) }
 {
-    encoder.measured::<First>(mode, sizes)
+    match mode {
+        Mode::Cer => encoder.measured::<InCer>(Mode::Cer, sizes),
+        Mode::Ber | Mode::Der => encoder.measured::<First>(mode, sizes),
+    }
 }
 
 impl<V: Values> Encoder for &'_ V {
