@@ -1,6 +1,6 @@
 -- The octets that are written mean the value.
-use Rattle.std.proofs.Common.{◌≡◌, ◌≢◌, ℕ, zero, suc, ◌+◌, ◌-◌, ◌*◌, ◌/◌, ◌%◌, ◌^◌, ◌<◌, ◌≤◌, Bool, true, false, ◌==◌, if◌then◌else◌, nat_lt, nat_le}
-use Rattle.std.proofs.Common.{List, [], ◌∷◌, ◌++◌, length, get_or, take, drop, refl, sym, ap, ◌∙◌, subst, arith, add-one, Option, Some, None, inl, inr, append_assoc}
+use Rattle.std.proofs.Common.{◌≡◌, ℕ, zero, suc, ◌+◌, ◌-◌, ◌*◌, ◌/◌, ◌%◌, ◌^◌, ◌<◌, ◌≤◌, Bool, true, false, ◌==◌, if◌then◌else◌, nat_le}
+use Rattle.std.proofs.Common.{List, [], ◌∷◌, ◌++◌, length, refl, ap, ◌∙◌, subst, arith, Some, inl, inr}
 use Rattle.std.proofs.Common.{ℤ, pos, negsuc, ◌+ℤ◌, ◌-ℤ◌, ◌*ℤ◌, w32, FitsSigned, length-append}
 use Rattle.std.proofs.Math.Nat.{pow-succ'}
 use Rattle.std.proofs.Math.Seq.{take-append_seam, drop-append_seam}
@@ -9,7 +9,7 @@ use Rattle.std.proofs.lemmas.Int.{ints}
 use Rattle.std.specs.Int.{complement_if}
 use Rattle.real.specs.Number.{BinaryNumber, IsBinaryNumber}
 use Rattle.real.specs.Octets.{unsigned_from, unsigned, signed, cut, is_smallest, parts, big_endian, octet, complement, exponent_len, with_len, binary_octets, binary_octets_of, exponent_octets}
-use Rattle.real.specs.Contents.{IsBase, IsBinary, MeansBinary, Means, IsReal, IsHeld, real_octets}
+use Rattle.real.specs.Contents.{IsBinary, MeansBinary, Means, IsReal, IsHeld, real_octets}
 use Rattle.real.specs.declared.value.Real.{Real}
 use Rattle.real.specs.declared.value.Real.TheVariants.{Zero, MinusZero, Infinity, MinusInfinity, NotANumber, Binary}
 use Rattle.real.proofs.Numbers.{big_endian-some, signed_positive, signed_negative}
@@ -159,16 +159,16 @@ back_at x below n h e b =
     let P : ℕ → Type 0 = λ k.
     MeansBinary ((128 + (if x.negative then 64 else 0) + (k - 1)) ∷ with_len k (complement below k n) ++ big_endian 8 x.mantissa) x in
     elim (cases_lt n 128) [
-      inl a ↦ subst P (one_len n a)
-        (read_from x below n 0 _ (complement below 1 n) h e (omega arith) (omega arith) (signed1 below n a) (parts1 below n _))
+      | inl a ↦ subst P (one_len n a)
+          (read_from x below n 0 _ (complement below 1 n) h e (omega arith) (omega arith) (signed1 below n a) (parts1 below n _))
       | inr a ↦ elim (cases_lt n 32768) [
-        inl c ↦ subst P (two_len n a c)
-          (read_from x below n 1 _ (complement below 2 n) h e (omega arith) (omega arith) (signed2 below n c) (parts2 below n _))
+        | inl c ↦ subst P (two_len n a c)
+            (read_from x below n 1 _ (complement below 2 n) h e (omega arith) (omega arith) (signed2 below n c) (parts2 below n _))
         | inr c ↦ elim (cases_lt n 8388608) [
-          inl d ↦ subst P (three_len n c d)
-            (read_from x below n 2 _ (complement below 3 n) h e (omega arith) (omega arith) (signed3 below n d) (parts3 below n _))
+          | inl d ↦ subst P (three_len n c d)
+              (read_from x below n 2 _ (complement below 3 n) h e (omega arith) (omega arith) (signed3 below n d) (parts3 below n _))
           | inr d ↦ subst P (four_len n d)
-            (read_from x below n 3 _ (complement below 4 n) h e (omega arith) (omega arith) (signed4 below n b) (parts4 below n _ d b))
+              (read_from x below n 3 _ (complement below 4 n) h e (omega arith) (omega arith) (signed4 below n b) (parts4 below n _ d b))
         ]
       ]
     ]

@@ -1,9 +1,9 @@
 -- Contents octets mean one value at most.
-use Rattle.std.proofs.Common.{◌≡◌, ◌≢◌, ℕ, zero, suc, ◌+◌, ◌-◌, ◌*◌, ◌/◌, ◌%◌, ◌^◌, ◌<◌, ◌≤◌, Bool, true, false, ◌==◌, if◌then◌else◌, min}
-use Rattle.std.proofs.Common.{List, [], ◌∷◌, length, get_or, refl, sym, ap, ◌∙◌, subst, arith, add-one, Option, Some, None, ◌⊎◌, inl, inr}
-use Rattle.std.proofs.Common.{ℤ, pos, ◌+ℤ◌, ◌*ℤ◌}
+use Rattle.std.proofs.Common.{◌≡◌, ℕ, zero, suc, ◌+◌, ◌*◌, ◌/◌, ◌%◌, ◌^◌, ◌<◌, Bool, true, false, ◌==◌, if◌then◌else◌, min}
+use Rattle.std.proofs.Common.{List, [], ◌∷◌, get_or, refl, sym, ap, ◌∙◌, subst, arith, Option, Some, None, inl, inr}
+use Rattle.std.proofs.Common.{pos, ◌+ℤ◌, ◌*ℤ◌}
 use Rattle.std.proofs.Math.Nat.{pow-succ'}
-use Rattle.real.specs.Number.{BinaryNumber, IsBinaryNumber}
+use Rattle.real.specs.Number.{BinaryNumber}
 use Rattle.real.specs.Octets.{unsigned, signed, parts}
 use Rattle.real.specs.Contents.{IsBase, IsBinary, MeansBinary, Means, real_octets, IsReal}
 use Rattle.real.specs.declared.value.Real.{Real}

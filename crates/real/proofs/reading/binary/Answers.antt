@@ -1,8 +1,7 @@
-use Rattle.std.proofs.Common.{rules, arith, sym, ◌∙◌, ◌≡◌, ap, subst, ℤ, pos, ◌+ℤ◌, ◌*ℤ◌, ◌+◌, ◌/◌, ◌%◌, w32, w64, SFits, FitsSigned}
+use Rattle.std.proofs.Common.{rules, arith, ◌∙◌, ◌≡◌, ap, subst, pos, ◌*ℤ◌, w32, w64, SFits, FitsSigned}
 use Rattle.std.proofs.lemmas.Grind.{common_steps}
 use Rattle.std.proofs.lemmas.Int.{to_z-of_z}
 use Rattle.real.specs.Octets.{signed}
-use Rattle.real.specs.Contents.{IsBinary}
 use Rattle.real.proofs.Ones.{AreParts, same_exponent}
 use Rattle.real.proofs.reading.binary.Goals as goal
 
