@@ -10,6 +10,7 @@
 #![tactic(auto)]
 
 mod binary;
+mod double;
 pub mod laws;
 mod octets;
 mod reading;

@@ -115,7 +115,7 @@ fn parts(form: u8, octets: &[u8]) -> Option<(&[u8], &[u8])>
 }
 
 /// Returns the odd number that is left when a power of two is taken out, and the power.
-fn odd_part(number: u64, bits: u8) -> (u64, u8)
+pub(crate) fn odd_part(number: u64, bits: u8) -> (u64, u8)
     requires some { 0 < number }
     requires fits { number < 2 ^ bits }
     ensures same { number ≡ result.0 * 2 ^ result.1 }
