@@ -1,10 +1,12 @@
 -- Numbers that no bits mean.
-use Rattle.std.proofs.Common.{◌≡◌, ℕ, zero, suc, ◌+◌, ◌-◌, ◌*◌, ◌^◌, ◌<◌, ◌≤◌}
+use Rattle.std.proofs.Common.{◌≡◌, ℕ, zero, suc, ◌+◌, ◌-◌, ◌*◌, ◌^◌, ◌<◌, ◌≤◌, ◌%◌, refl}
 use Rattle.std.proofs.Common.{sym, ◌∙◌, subst, arith, add-one, pos, ◌+ℤ◌}
 use Rattle.std.proofs.Math.Nat.{pow-succ'}
 use Rattle.std.proofs.lemmas.Int.{ints}
 use Rattle.real.specs.Number.{BinaryNumber}
-use Rattle.real.specs.Double.{biased, significand, IsDouble}
+use Rattle.real.specs.Double.{biased, significand, IsDouble, MeansDouble}
+use Rattle.real.specs.declared.value.Real.{Real}
+use Rattle.real.specs.declared.value.Real.TheVariants.{Zero, MinusZero, Infinity, MinusInfinity, NotANumber, Binary}
 use Rattle.real.proofs.Numbers.{twice}
 
 doubling : (m j : ℕ) → m * 2 ^ suc j ≡ 2 * (m * 2 ^ j)
@@ -54,3 +56,11 @@ not_large bits x s place power h e is most far =
 
 pub raised_step : (s r x : ℕ) → r ≡ (2 * s) * 2 ^ x → r ≡ s * 2 ^ (x + 1)
 raised_step s r x h = rw (add-one, pow-succ' 2 x, twice s (2 ^ x)) (h ∙ omega arith)
+
+pub no_nan : (x : Real) (bits : ℕ) → (x ≡ NotANumber → ⊥) → MeansDouble bits x → bits % 9223372036854775808 ≤ 9218868437227405312
+no_nan Zero bits n h = omega arith
+no_nan MinusZero bits n h = omega arith
+no_nan Infinity bits n h = omega arith
+no_nan MinusInfinity bits n h = omega arith
+no_nan NotANumber bits n h = absurd (n refl)
+no_nan (Binary x) bits n h = let f = h.finite in omega arith

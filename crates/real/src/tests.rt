@@ -50,3 +50,26 @@ fn values_are_written(rt: HostRuntime) {
     let octets = write(&Real::NotANumber);
     assert_eq!(rt; octets.as_slice(), [0x42].as_slice());
 }
+
+#[test]
+fn floating_point_numbers_are_values(rt: HostRuntime) {
+    assert_eq!(rt; Some(Real::from_f64(0.15625)), binary(false, 5, -5));
+    assert_eq!(rt; Some(Real::from_f64(-1.5)), binary(true, 3, -1));
+    assert_eq!(rt; Some(Real::from_f64_bits(1)), binary(false, 1, -1074));
+    assert_eq!(rt; Real::from_f64(-0.0), Real::MinusZero);
+}
+
+#[test]
+fn values_are_floating_point_numbers_or_none(rt: HostRuntime) {
+    let Some(number) = Binary::new(false, 5, -5) else {
+        return;
+    };
+    assert_eq!(rt;
+        Real::Binary(number).to_f64_bits(),
+        Some(0x3FC4_0000_0000_0000)
+    );
+    let Some(small) = Binary::new(false, 1, -1075) else {
+        return;
+    };
+    assert_eq!(rt; Real::Binary(small).to_f64_bits(), None);
+}
