@@ -31,6 +31,7 @@ pub record IsBinary (first : ℕ) (rest : List ℕ) (x : BinaryNumber) : Type 0 
   pub exponent_is : x.exponent ≡ (signed exponent *ℤ pos base) +ℤ pos (first / 4 % 4 + power)
   pub held : IsBinaryNumber x
 
+-- a first octet and those behind it
 abbrev pub MeansBinary : List ℕ → BinaryNumber → Type 0
 MeansBinary [] x = ⊥
 MeansBinary (first ∷ rest) x = IsBinary first rest x

@@ -62,9 +62,11 @@ binary_octets_of negative below n mantissa =
     (128 + (if negative then 64 else 0) + (exponent_len n - 1))
     ∷ with_len (exponent_len n) (complement below (exponent_len n) n) ++ big_endian 8 mantissa
 
+-- the exponent is n or -1 - n
 abbrev pub exponent_octets : Bool → ℤ → ℕ → List ℕ
 exponent_octets negative (pos n) mantissa = binary_octets_of negative false n mantissa
 exponent_octets negative (negsuc n) mantissa = binary_octets_of negative true n mantissa
 
+-- 11.3.1: the contents octets of a binary number in CER and DER
 unfoldable pub binary_octets : BinaryNumber → List ℕ
 binary_octets x = exponent_octets x.negative x.exponent x.mantissa
