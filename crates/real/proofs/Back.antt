@@ -8,7 +8,8 @@ use Rattle.std.proofs.lemmas.Bool.{cases_lt}
 use Rattle.std.proofs.lemmas.Int.{ints}
 use Rattle.std.specs.Int.{complement_if}
 use Rattle.real.specs.Number.{BinaryNumber, IsBinaryNumber}
-use Rattle.real.specs.Octets.{unsigned_from, unsigned, signed, cut, is_smallest, parts, big_endian, octet, complement, exponent_len, with_len, binary_octets, binary_octets_of, exponent_octets}
+use Rattle.real.specs.Octets.{unsigned_from, unsigned, signed, cut, is_smallest, parts, big_endian}
+use Rattle.real.specs.Octets.{octet, complement, exponent_len, with_len, binary_octets, binary_octets_of, exponent_octets}
 use Rattle.real.specs.Contents.{IsBinary, MeansBinary, Means, IsReal, IsHeld, real_octets}
 use Rattle.real.specs.declared.value.Real.{Real}
 use Rattle.real.specs.declared.value.Real.TheVariants.{Zero, MinusZero, Infinity, MinusInfinity, NotANumber, Binary}

@@ -1,5 +1,6 @@
 //! 64-bit floating point numbers (IEEE 754, binary64).
-ghost use Rattle.std.specs.Prelude.{◌≡◌, ◌≢◌, ℕ, ◌+◌, ◌-◌, ◌*◌, ◌/◌, ◌^◌, ◌<◌, ◌≤◌, ◌==◌, MatchOption};
+ghost use Rattle.std.specs.Prelude.{◌≡◌, ◌≢◌, ℕ, ◌+◌, ◌-◌, ◌*◌};
+ghost use Rattle.std.specs.Prelude.{◌/◌, ◌^◌, ◌<◌, ◌≤◌, ◌==◌, MatchOption};
 ghost use Rattle.real.specs.Double.{biased, significand as significand_of, MeansDouble, IsDouble};
 
 use crate::binary::Binary;

@@ -1,5 +1,6 @@
 //! What contents octets mean.
-ghost use Rattle.std.specs.Prelude.{◌≡◌, ℕ, ℤ, pos, ◌*◌, ◌%◌, ◌^◌, ◌<◌, ◌≤◌, ◌∷◌, negsuc, ◌≤ℤ◌, ◌+ℤ◌, ◌*ℤ◌, ◌+◌};
+ghost use Rattle.std.specs.Prelude.{◌≡◌, ℕ, ℤ, pos, ◌*◌, ◌%◌, ◌^◌};
+ghost use Rattle.std.specs.Prelude.{◌<◌, ◌≤◌, ◌∷◌, negsuc, ◌≤ℤ◌, ◌+ℤ◌, ◌*ℤ◌, ◌+◌};
 ghost use Rattle.std.specs.Prelude.{length, Option, Some, None, MatchOption, IfSome};
 ghost use Rattle.std.specs.Prelude.{false, true};
 ghost use Rattle.std.specs.Int.{w32};
