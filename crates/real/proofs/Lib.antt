@@ -1,0 +1,4 @@
+pub mod Numbers
+pub mod Ones
+pub mod Back
+pub mod Doubles

@@ -1,0 +1,4 @@
+pub mod Number
+pub mod Octets
+pub mod Contents
+pub mod Double
