@@ -54,7 +54,7 @@ real_octets NotANumber = 0x42 ∷ []
 real_octets MinusZero = 0x43 ∷ []
 real_octets (Binary x) = binary_octets x
 
--- 11.3: in CER and DER the fewest octets that mean it
+-- 11.3.1: in CER and DER base 2, the scaling factor 0, an odd mantissa, and both numbers in the fewest octets
 abbrev pub IsReal : Bool → List ℕ → Real → Type 0
 IsReal false w x = Means w x
 IsReal true w x = Means w x × (w ≡ real_octets x)

@@ -6,8 +6,8 @@
 //! write(&Real::from_f64(0.15625))    80 FB 05
 //! ```
 //!
-//! Decimal numbers (X.690, 8.5.8 and 11.3.2) aren't read. Neither are exponents of more than four
-//! octets, nor mantissas of more than 64 bits.
+//! Decimal numbers (X.690, 8.5.8 and 11.3.2) aren't read, and neither are exponents of more than
+//! four octets and mantissas of more than 64 bits.
 #![tactic(auto)]
 
 mod binary;

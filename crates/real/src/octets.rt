@@ -21,7 +21,7 @@ impl Model for Octets {
 }
 
 impl Octets {
-    /// Makes them of none.
+    /// Returns no octets.
     pub(crate) fn new() -> Octets
         ensures { result ≡ [] }
     {

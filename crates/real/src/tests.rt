@@ -42,10 +42,8 @@ fn values_of_their_own_octets_are_read(rt: HostRuntime) {
 
 #[test]
 fn values_are_written(rt: HostRuntime) {
-    let Some(number) = Binary::new(false, 5, -5) else {
-        return;
-    };
-    let octets = write(&Real::Binary(number));
+    let value = binary(false, 5, -5).unwrap_or(Real::Zero);
+    let octets = write(&value);
     assert_eq!(rt; octets.as_slice(), [0x80, 0xFB, 0x05].as_slice());
     let octets = write(&Real::NotANumber);
     assert_eq!(rt; octets.as_slice(), [0x42].as_slice());
@@ -61,15 +59,9 @@ fn floating_point_numbers_are_values(rt: HostRuntime) {
 
 #[test]
 fn values_are_floating_point_numbers_or_none(rt: HostRuntime) {
-    let Some(number) = Binary::new(false, 5, -5) else {
-        return;
-    };
-    assert_eq!(rt;
-        Real::Binary(number).to_f64_bits(),
-        Some(0x3FC4_0000_0000_0000)
-    );
-    let Some(small) = Binary::new(false, 1, -1075) else {
-        return;
-    };
-    assert_eq!(rt; Real::Binary(small).to_f64_bits(), None);
+    let value = binary(false, 5, -5).unwrap_or(Real::Zero);
+    assert_eq!(rt; value.to_f64_bits(), Some(0x3FC4_0000_0000_0000));
+    assert!(rt; value.to_f64() == Some(0.15625));
+    let small = binary(false, 1, -1075).unwrap_or(Real::Zero);
+    assert_eq!(rt; small.to_f64_bits(), None);
 }

@@ -73,7 +73,7 @@ fn exponent_len(magnitude: u32) -> u8
     }
 }
 
-/// Appends the octets of a binary number.
+/// Returns the octets of a binary number.
 #[tactic(auto, unfolding(crate::specs::Octets::binary_octets))]
 fn put_binary(number: &Binary) -> Octets
     ensures { result ≡ binary_octets number.now }
@@ -91,7 +91,7 @@ fn put_binary(number: &Binary) -> Octets
     octets
 }
 
-/// Makes octets of one.
+/// Returns one octet.
 fn one(octet: u8) -> Octets
     ensures { result ≡ octet ∷ [] }
 {
