@@ -6,7 +6,7 @@ ghost use Rattle.bcder.specs.calls.Gathered.{none_kept, kept_from_start, Extends
 use crate::NoMemory;
 use crate::captured::Captured;
 use crate::decode::Pos;
-use crate::encode::sizes::Sizes;
+use crate::encode::sizes::{First, Sizes};
 use crate::encode::slot::{Failed, slot};
 use crate::encode::values::measure;
 use crate::encode::{EncodeError, Values, WriteError};
@@ -90,7 +90,12 @@ impl CapturedBuilder {
         }
         let before = self.octets.len();
         let mut why = slot();
-        match values.write_known(self.mode, &mut sizes.left(), &mut self.octets, &mut why) {
+        match values.write_known::<First, _>(
+            self.mode,
+            &mut sizes.left(),
+            &mut self.octets,
+            &mut why,
+        ) {
             Ok(()) => Ok(()),
             Err(Failed) => {
                 self.octets.truncate(before);

@@ -31,7 +31,7 @@ impl Encoder for Captured {
     }
 
     #[tactic(auto, using(crate::proofs::Noting::none_read))]
-    fn put<W: io::Write>(
+    fn put<Pass, W: io::Write>(
         &self,
         _mode: Mode,
         _sizes: &mut SizesLeft<'_>,

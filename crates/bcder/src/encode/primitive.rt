@@ -225,7 +225,7 @@ impl<P: PrimitiveContent> Encoder for Primitive<P> {
 
     #[inline(always)]
     #[tactic(auto, using(crate::proofs::Noting::none_read))]
-    fn put<W: io::Write>(
+    fn put<Pass, W: io::Write>(
         &self,
         mode: Mode,
         _sizes: &mut SizesLeft<'_>,

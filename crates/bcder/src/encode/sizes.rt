@@ -6,16 +6,20 @@
 //! value whose size isn't noted measures its inside once more, and notes the sizes there anew.
 ghost use Rattle.std.specs.Prelude.{◌≡◌, ◌≢◌, ◌≤◌, ◌+◌, ℕ, List, [], ◌∷◌, ◌++◌, length, IsTrue};
 
-/// Measures values for the first time, before any of them is written.
+/// Measures values for the first time, before any of them is written; and writes the outermost.
 ///
-/// This, [`InCer`] and [`Again`] do the same. They are compiled apart, so that at each level of
-/// values one place measures first, and a compiler puts all levels into one function.
+/// Such a type only tells calls of one function apart: those for [`InCer`], [`Inside`] and
+/// [`Again`] do the same. Each is compiled by itself. So at each level one place measures first,
+/// and one writes what a public call was given. A compiler puts these into their caller.
 pub(crate) struct First;
 
 /// Measures values for the first time in CER, where no size is noted.
 pub(crate) struct InCer;
 
-/// Measures values once more, since their sizes weren't noted.
+/// Writes values inside another value.
+pub(crate) struct Inside;
+
+/// Measures and writes values whose sizes weren't noted.
 pub(crate) struct Again;
 
 /// The sizes of what is inside values, in the order in which length octets need them.

@@ -89,14 +89,15 @@ pub trait Values {
             (means self.now mode) (may_lack self.now mode) result };
 
     /// Writes an encoding that is known to exist, so that an encoder of many parts looks for
-    /// refusals only once. Sizes for length octets are read from those that are left.
+    /// refusals only once. Sizes for length octets are read from those that are left. `Pass` tells
+    /// the outermost values from those inside others; both are written alike.
     ///
     /// # Errors
     ///
     /// Returns `NoMemory` or the target's error, like `write_encoded`.
     #[doc(hidden)]
     #[inline(always)]
-    fn write_known<W: io::Write>(
+    fn write_known<Pass, W: io::Write>(
         &self,
         mode: Mode,
         sizes: &mut SizesLeft<'_>,
@@ -165,7 +166,7 @@ pub trait Encoder {
         ensures noted { IfOk result (λ _. Notes (takes self.now mode) sizes.old sizes.new) };
 
     /// Writes an encoding that is known to exist. Sizes are read from those that are left.
-    fn put<W: io::Write>(
+    fn put<Pass, W: io::Write>(
         &self,
         mode: Mode,
         sizes: &mut SizesLeft<'_>,
@@ -208,19 +209,19 @@ impl<E: Encoder> Values for E {
         let mut sizes = Sizes::new();
         measure_first(self, mode, &mut sizes)?;
         let mut why = slot();
-        let written = self.put(mode, &mut sizes.left(), target, &mut why);
+        let written = self.put::<First, _>(mode, &mut sizes.left(), target, &mut why);
         into_result(written, why)
     }
 
     #[inline(always)]
-    fn write_known<W: io::Write>(
+    fn write_known<Pass, W: io::Write>(
         &self,
         mode: Mode,
         sizes: &mut SizesLeft<'_>,
         target: &mut W,
         why: &mut WriteError,
     ) -> Result<(), Failed> {
-        self.put(mode, sizes, target, why)
+        self.put::<Pass, _>(mode, sizes, target, why)
     }
 
     ghost lawful = { E.one };
@@ -261,14 +262,14 @@ impl<V: Values> Encoder for &'_ V {
     }
 
     #[inline(always)]
-    fn put<W: io::Write>(
+    fn put<Pass, W: io::Write>(
         &self,
         mode: Mode,
         sizes: &mut SizesLeft<'_>,
         target: &mut W,
         why: &mut WriteError,
     ) -> Result<(), Failed> {
-        (**self).write_known(mode, sizes, target, why)
+        (**self).write_known::<Pass, _>(mode, sizes, target, why)
     }
 
     ghost one = { λ x mode can. V.lawful x.now mode can };

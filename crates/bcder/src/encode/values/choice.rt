@@ -31,7 +31,7 @@ impl Encoder for Nothing {
 
     #[inline(always)]
     #[tactic(auto, using(crate::proofs::Noting::none_read))]
-    fn put<W: io::Write>(
+    fn put<Pass, W: io::Write>(
         &self,
         _mode: Mode,
         _sizes: &mut SizesLeft<'_>,
@@ -63,7 +63,7 @@ impl<V: Values> Encoder for Option<V> {
         }
     }
 
-    fn put<W: io::Write>(
+    fn put<Pass, W: io::Write>(
         &self,
         mode: Mode,
         sizes: &mut SizesLeft<'_>,
@@ -71,8 +71,8 @@ impl<V: Values> Encoder for Option<V> {
         why: &mut WriteError,
     ) -> Result<(), Failed> {
         match self {
-            Some(values) => values.write_known(mode, sizes, target, why),
-            None => Nothing.write_known(mode, sizes, target, why),
+            Some(values) => values.write_known::<Pass, _>(mode, sizes, target, why),
+            None => Nothing.write_known::<Pass, _>(mode, sizes, target, why),
         }
     }
 
@@ -106,7 +106,7 @@ impl<L: Values, R: Values> Encoder for Choice2<L, R> {
         }
     }
 
-    fn put<W: io::Write>(
+    fn put<Pass, W: io::Write>(
         &self,
         mode: Mode,
         sizes: &mut SizesLeft<'_>,
@@ -114,8 +114,8 @@ impl<L: Values, R: Values> Encoder for Choice2<L, R> {
         why: &mut WriteError,
     ) -> Result<(), Failed> {
         match self {
-            Choice2::One(values) => values.write_known(mode, sizes, target, why),
-            Choice2::Two(values) => values.write_known(mode, sizes, target, why),
+            Choice2::One(values) => values.write_known::<Pass, _>(mode, sizes, target, why),
+            Choice2::Two(values) => values.write_known::<Pass, _>(mode, sizes, target, why),
         }
     }
 
@@ -157,7 +157,7 @@ impl<L: Values, C: Values, R: Values> Encoder for Choice3<L, C, R> {
         }
     }
 
-    fn put<W: io::Write>(
+    fn put<Pass, W: io::Write>(
         &self,
         mode: Mode,
         sizes: &mut SizesLeft<'_>,
@@ -165,9 +165,9 @@ impl<L: Values, C: Values, R: Values> Encoder for Choice3<L, C, R> {
         why: &mut WriteError,
     ) -> Result<(), Failed> {
         match self {
-            Choice3::One(values) => values.write_known(mode, sizes, target, why),
-            Choice3::Two(values) => values.write_known(mode, sizes, target, why),
-            Choice3::Three(values) => values.write_known(mode, sizes, target, why),
+            Choice3::One(values) => values.write_known::<Pass, _>(mode, sizes, target, why),
+            Choice3::Two(values) => values.write_known::<Pass, _>(mode, sizes, target, why),
+            Choice3::Three(values) => values.write_known::<Pass, _>(mode, sizes, target, why),
         }
     }
 

@@ -13,7 +13,7 @@ ghost use Rattle.bcder.specs.steps.Places.{ReservesContents, FillsContents};
 ghost use Rattle.bcder.specs.laws.Meanings.{constructed_lawful};
 
 use crate::encode::header::put_header;
-use crate::encode::sizes::{Again, Sizes, SizesLeft};
+use crate::encode::sizes::{Again, Inside, Sizes, SizesLeft};
 use crate::encode::slot::{Failed, into_result, slot, store_refusal};
 use crate::encode::target::put_all;
 use crate::encode::values::{Encoder, Values};
@@ -158,7 +158,7 @@ fn next_size(mode: Mode, sizes: &mut SizesLeft<'_>) -> Option<usize>
 }
 
 /// Writes the value in CER, with end-of-contents octets (X.690, 9.1).
-fn put_indefinite<V: Values, W: io::Write>(
+fn put_indefinite<Pass, V: Values, W: io::Write>(
     value: &Constructed<V>,
     sizes: &mut SizesLeft<'_>,
     target: &mut W,
@@ -174,12 +174,14 @@ fn put_indefinite<V: Values, W: io::Write>(
         HasRead (V.reads value.now.inner Cer) sizes.old.sizes.now sizes.new.sizes.now) }
 {
     put_header(target, value.tag, true, Length::Indefinite, why)?;
-    value.inner.write_known(Mode::Cer, sizes, target, why)?;
+    value
+        .inner
+        .write_known::<Inside, _>(Mode::Cer, sizes, target, why)?;
     put_all(target, &[0x00, 0x00], why)
 }
 
 /// Writes the value in BER or DER, with a definite length (X.690, 10.1).
-fn put_definite<V: Values, W: io::Write>(
+fn put_definite<Pass, V: Values, W: io::Write>(
     value: &Constructed<V>,
     size: usize,
     mode: Mode,
@@ -198,12 +200,14 @@ fn put_definite<V: Values, W: io::Write>(
         HasRead (V.reads value.now.inner mode) sizes.old.sizes.now sizes.new.sizes.now) }
 {
     put_header(target, value.tag, true, Length::Definite(size), why)?;
-    value.inner.write_known(mode, sizes, target, why)
+    value
+        .inner
+        .write_known::<Inside, _>(mode, sizes, target, why)
 }
 
 /// Writes the value. What is inside has `size` octets if the length octets need the size.
 #[inline(always)]
-fn put_enclosed<V: Values, W: io::Write>(
+fn put_enclosed<Pass, V: Values, W: io::Write>(
     value: &Constructed<V>,
     size: usize,
     mode: Mode,
@@ -222,8 +226,8 @@ fn put_enclosed<V: Values, W: io::Write>(
         HasRead (V.reads value.now.inner mode) sizes.old.sizes.now sizes.new.sizes.now) }
 {
     match mode {
-        Mode::Cer => put_indefinite(value, sizes, target, why),
-        Mode::Ber | Mode::Der => put_definite(value, size, mode, sizes, target, why),
+        Mode::Cer => put_indefinite::<Pass, _, _>(value, sizes, target, why),
+        Mode::Ber | Mode::Der => put_definite::<Pass, _, _>(value, size, mode, sizes, target, why),
     }
 }
 
@@ -244,7 +248,7 @@ fn put_measured<V: Values, W: io::Write>(
 {
     let mut sizes = Sizes::new();
     match value.inner.note_sizes::<Again>(mode, &mut sizes) {
-        Ok(size) => put_enclosed(value, size, mode, &mut sizes.left(), target, why),
+        Ok(size) => put_enclosed::<Again, _, _>(value, size, mode, &mut sizes.left(), target, why),
         Err(error) => Err(store_refusal(why, error)),
     }
 }
@@ -270,7 +274,7 @@ impl<V: Values> Encoder for Constructed<V> {
     }
 
     #[inline(always)]
-    fn put<W: io::Write>(
+    fn put<Pass, W: io::Write>(
         &self,
         mode: Mode,
         sizes: &mut SizesLeft<'_>,
@@ -278,7 +282,7 @@ impl<V: Values> Encoder for Constructed<V> {
         why: &mut WriteError,
     ) -> Result<(), Failed> {
         match next_size(mode, sizes) {
-            Some(size) => put_enclosed(self, size, mode, sizes, target, why),
+            Some(size) => put_enclosed::<Pass, _, _>(self, size, mode, sizes, target, why),
             None => put_measured(self, mode, target, why),
         }
     }

@@ -94,7 +94,7 @@ where
     }
 
     #[tactic(auto, using(crate::proofs::Noting::none_read))]
-    fn write_parts<W: io::Write>(
+    fn write_parts<Pass, W: io::Write>(
         &self,
         mode: Mode,
         _sizes: &mut SizesLeft<'_>,
@@ -106,7 +106,7 @@ where
             Err(_) => return Err(store_refusal(why, EncodeError::NoMemory)),
         };
         for item in items {
-            item.write_known(mode, &mut SizesLeft::none(), target, why)?;
+            item.write_known::<Pass, _>(mode, &mut SizesLeft::none(), target, why)?;
         }
         Ok(())
     }
@@ -133,14 +133,14 @@ where
         note_joined::<Pass, _>(self, mode, sizes)
     }
 
-    fn put<W: io::Write>(
+    fn put<Pass, W: io::Write>(
         &self,
         mode: Mode,
         sizes: &mut SizesLeft<'_>,
         target: &mut W,
         why: &mut WriteError,
     ) -> Result<(), Failed> {
-        write_known_parts(self, mode, sizes, target, why)
+        write_known_parts::<Pass, _, _>(self, mode, sizes, target, why)
     }
 
     ghost one = { λ x mode can.

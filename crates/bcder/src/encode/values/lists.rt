@@ -56,7 +56,7 @@ impl<'a, V: Values> Parts for Items<'a, V> {
         Ok(sum)
     }
 
-    fn write_parts<W: io::Write>(
+    fn write_parts<Pass, W: io::Write>(
         &self,
         mode: Mode,
         sizes: &mut SizesLeft<'_>,
@@ -64,7 +64,7 @@ impl<'a, V: Values> Parts for Items<'a, V> {
         why: &mut WriteError,
     ) -> Result<(), Failed> {
         for item in self.items {
-            item.write_known(mode, sizes, target, why)?;
+            item.write_known::<Pass, _>(mode, sizes, target, why)?;
         }
         Ok(())
     }
@@ -87,14 +87,14 @@ impl<V: Values> Encoder for &'_ [V] {
         note_joined::<Pass, _>(&Items { items: *self }, mode, sizes)
     }
 
-    fn put<W: io::Write>(
+    fn put<Pass, W: io::Write>(
         &self,
         mode: Mode,
         sizes: &mut SizesLeft<'_>,
         target: &mut W,
         why: &mut WriteError,
     ) -> Result<(), Failed> {
-        write_known_parts(&Items { items: *self }, mode, sizes, target, why)
+        write_known_parts::<Pass, _, _>(&Items { items: *self }, mode, sizes, target, why)
     }
 
     ghost one = { λ x mode can.
@@ -115,14 +115,15 @@ impl<V: Values> Encoder for Vec<V> {
         self.as_slice().note_sizes::<Pass>(mode, sizes)
     }
 
-    fn put<W: io::Write>(
+    fn put<Pass, W: io::Write>(
         &self,
         mode: Mode,
         sizes: &mut SizesLeft<'_>,
         target: &mut W,
         why: &mut WriteError,
     ) -> Result<(), Failed> {
-        self.as_slice().write_known(mode, sizes, target, why)
+        self.as_slice()
+            .write_known::<Pass, _>(mode, sizes, target, why)
     }
 
     ghost one = { λ x mode can.

@@ -7,7 +7,7 @@ ghost use Rattle.bcder.specs.calls.Slices.{item_lawful};
 ghost use Rattle.bcder.specs.calls.Noted.{ReadsNone};
 ghost use Rattle.bcder.specs.laws.Joined.{EachOf_lawful, Joined_lawful};
 
-use crate::encode::sizes::{Sizes, SizesLeft};
+use crate::encode::sizes::{Inside, Sizes, SizesLeft};
 use crate::encode::slot::Failed;
 use crate::encode::values::parts::{Parts, add_len, note_joined, write_known_parts};
 use crate::encode::values::{Encoder, Values};
@@ -78,7 +78,7 @@ fn write_item<U, V: Values + Drop, F: Fn(&U) -> V, W: io::Write>(
         (ItemLacks F.Fn f.now V.may_lack mode item.now) (into_result result why.new) }
 {
     let value = call_on(f, item);
-    value.write_known(mode, &mut SizesLeft::none(), target, why)
+    value.write_known::<Inside, _>(mode, &mut SizesLeft::none(), target, why)
 }
 
 /// The items and the closure.
@@ -113,7 +113,7 @@ impl<'a, F: Fn(&U) -> V, U, V: Values + Drop> Parts for Mapped<'a, F, U, V> {
     }
 
     #[tactic(auto, using(crate::proofs::Noting::none_read))]
-    fn write_parts<W: io::Write>(
+    fn write_parts<Pass, W: io::Write>(
         &self,
         mode: Mode,
         _sizes: &mut SizesLeft<'_>,
@@ -150,7 +150,7 @@ impl<T: AsSlice<U>, F: Fn(&U) -> V, U, V: Values + Drop> Encoder for Slice<T, F,
         note_joined::<Pass, _>(&parts, mode, sizes)
     }
 
-    fn put<W: io::Write>(
+    fn put<Pass, W: io::Write>(
         &self,
         mode: Mode,
         sizes: &mut SizesLeft<'_>,
@@ -163,7 +163,7 @@ impl<T: AsSlice<U>, F: Fn(&U) -> V, U, V: Values + Drop> Encoder for Slice<T, F,
             f: &self.f,
             marker: PhantomData,
         };
-        write_known_parts(&parts, mode, sizes, target, why)
+        write_known_parts::<Pass, _, _>(&parts, mode, sizes, target, why)
     }
 
     ghost one = { λ x mode can. Joined_lawful (EachOf_lawful mode

@@ -34,7 +34,7 @@ pub(crate) trait Parts {
         ensures noted { IfOk result (λ _. Notes (reads self.now mode) sizes.old sizes.new) };
 
     /// Writes the parts, none of which is refused.
-    fn write_parts<W: io::Write>(
+    fn write_parts<Pass, W: io::Write>(
         &self,
         mode: Mode,
         sizes: &mut SizesLeft<'_>,
@@ -72,7 +72,7 @@ pub(crate) fn note_joined<Pass, P: Parts>(
 
 /// Writes parts that are known to have an encoding.
 #[inline(always)]
-pub(crate) fn write_known_parts<P: Parts, W: io::Write>(
+pub(crate) fn write_known_parts<Pass, P: Parts, W: io::Write>(
     parts: &P,
     mode: Mode,
     sizes: &mut SizesLeft<'_>,
@@ -87,7 +87,7 @@ pub(crate) fn write_known_parts<P: Parts, W: io::Write>(
     ensures left { IfOk result (λ _.
         HasRead (P.reads parts.now mode) sizes.old.sizes.now sizes.new.sizes.now) }
 {
-    parts.write_parts(mode, sizes, target, why)
+    parts.write_parts::<Pass, _>(mode, sizes, target, why)
 }
 
 /// Adds a size to a sum of sizes.
@@ -126,7 +126,7 @@ impl Parts for End {
 
     #[inline(always)]
     #[tactic(auto, using(crate::proofs::Noting::none_read))]
-    fn write_parts<W: io::Write>(
+    fn write_parts<Pass, W: io::Write>(
         &self,
         _mode: Mode,
         _sizes: &mut SizesLeft<'_>,
@@ -170,15 +170,15 @@ impl<'a, V: Values, R: Parts> Parts for Chain<'a, V, R> {
     }
 
     #[inline(always)]
-    fn write_parts<W: io::Write>(
+    fn write_parts<Pass, W: io::Write>(
         &self,
         mode: Mode,
         sizes: &mut SizesLeft<'_>,
         target: &mut W,
         why: &mut WriteError,
     ) -> Result<(), Failed> {
-        self.first.write_known(mode, sizes, target, why)?;
-        self.rest.write_parts(mode, sizes, target, why)
+        self.first.write_known::<Pass, _>(mode, sizes, target, why)?;
+        self.rest.write_parts::<Pass, _>(mode, sizes, target, why)
     }
 
     ghost all_lawful = { λ x mode can.
@@ -203,14 +203,14 @@ impl<R: Parts> Parts for &'_ R {
         (**self).note_parts::<Pass>(mode, sizes)
     }
 
-    fn write_parts<W: io::Write>(
+    fn write_parts<Pass, W: io::Write>(
         &self,
         mode: Mode,
         sizes: &mut SizesLeft<'_>,
         target: &mut W,
         why: &mut WriteError,
     ) -> Result<(), Failed> {
-        (**self).write_parts(mode, sizes, target, why)
+        (**self).write_parts::<Pass, _>(mode, sizes, target, why)
     }
 
     ghost all_lawful = { λ x mode can. R.all_lawful x.now mode can };
@@ -266,7 +266,7 @@ impl<'a, A: Values, B: Values, C: Values, D: Values, R: Parts> Parts for Four<'a
         all.note_parts::<Pass>(mode, sizes)
     }
 
-    fn write_parts<W: io::Write>(
+    fn write_parts<Pass, W: io::Write>(
         &self,
         mode: Mode,
         sizes: &mut SizesLeft<'_>,
@@ -290,7 +290,7 @@ impl<'a, A: Values, B: Values, C: Values, D: Values, R: Parts> Parts for Four<'a
             first: self.a,
             rest,
         };
-        all.write_parts(mode, sizes, target, why)
+        all.write_parts::<Pass, _>(mode, sizes, target, why)
     }
 
     ghost all_lawful = { λ x mode can. Then_lawful (A.lawful x.a.now mode can.0)

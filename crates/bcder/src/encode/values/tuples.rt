@@ -47,7 +47,8 @@ impl<A: Values> Encoder for (A,) {
         note_joined::<Pass, _>(&parts!(a), mode, sizes)
     }
 
-    fn put<W: io::Write>(
+    #[inline(always)]
+    fn put<Pass, W: io::Write>(
         &self,
         mode: Mode,
         sizes: &mut SizesLeft<'_>,
@@ -55,7 +56,7 @@ impl<A: Values> Encoder for (A,) {
         why: &mut WriteError,
     ) -> Result<(), Failed> {
         let (a,) = self;
-        write_known_parts(&parts!(a), mode, sizes, target, why)
+        write_known_parts::<Pass, _, _>(&parts!(a), mode, sizes, target, why)
     }
 
     ghost one = { λ x mode can. Joined_lawful (Then_lawful (A.lawful x.0 mode can.0)
@@ -78,7 +79,8 @@ impl<A: Values, B: Values> Encoder for (A, B) {
         note_joined::<Pass, _>(&parts!(a, b), mode, sizes)
     }
 
-    fn put<W: io::Write>(
+    #[inline(always)]
+    fn put<Pass, W: io::Write>(
         &self,
         mode: Mode,
         sizes: &mut SizesLeft<'_>,
@@ -86,7 +88,7 @@ impl<A: Values, B: Values> Encoder for (A, B) {
         why: &mut WriteError,
     ) -> Result<(), Failed> {
         let (a, b) = self;
-        write_known_parts(&parts!(a, b), mode, sizes, target, why)
+        write_known_parts::<Pass, _, _>(&parts!(a, b), mode, sizes, target, why)
     }
 
     ghost one = { λ x mode can. Joined_lawful (Then_lawful (A.lawful x.0 mode can.0)
@@ -111,7 +113,8 @@ impl<A: Values, B: Values, C: Values> Encoder for (A, B, C) {
         note_joined::<Pass, _>(&parts!(a, b, c), mode, sizes)
     }
 
-    fn put<W: io::Write>(
+    #[inline(always)]
+    fn put<Pass, W: io::Write>(
         &self,
         mode: Mode,
         sizes: &mut SizesLeft<'_>,
@@ -119,7 +122,7 @@ impl<A: Values, B: Values, C: Values> Encoder for (A, B, C) {
         why: &mut WriteError,
     ) -> Result<(), Failed> {
         let (a, b, c) = self;
-        write_known_parts(&parts!(a, b, c), mode, sizes, target, why)
+        write_known_parts::<Pass, _, _>(&parts!(a, b, c), mode, sizes, target, why)
     }
 
     ghost one = { λ x mode can. Joined_lawful (Then_lawful (A.lawful x.0 mode can.0)
@@ -146,7 +149,8 @@ impl<A: Values, B: Values, C: Values, D: Values> Encoder for (A, B, C, D) {
         note_joined::<Pass, _>(&parts!(a, b, c, d), mode, sizes)
     }
 
-    fn put<W: io::Write>(
+    #[inline(always)]
+    fn put<Pass, W: io::Write>(
         &self,
         mode: Mode,
         sizes: &mut SizesLeft<'_>,
@@ -154,7 +158,7 @@ impl<A: Values, B: Values, C: Values, D: Values> Encoder for (A, B, C, D) {
         why: &mut WriteError,
     ) -> Result<(), Failed> {
         let (a, b, c, d) = self;
-        write_known_parts(&parts!(a, b, c, d), mode, sizes, target, why)
+        write_known_parts::<Pass, _, _>(&parts!(a, b, c, d), mode, sizes, target, why)
     }
 
     ghost one = { λ x mode can. Joined_lawful (Then_lawful (A.lawful x.0 mode can.0)
@@ -182,7 +186,8 @@ impl<A: Values, B: Values, C: Values, D: Values, E: Values> Encoder for (A, B, C
         note_joined::<Pass, _>(&parts!(a, b, c, d, e), mode, sizes)
     }
 
-    fn put<W: io::Write>(
+    #[inline(always)]
+    fn put<Pass, W: io::Write>(
         &self,
         mode: Mode,
         sizes: &mut SizesLeft<'_>,
@@ -190,7 +195,7 @@ impl<A: Values, B: Values, C: Values, D: Values, E: Values> Encoder for (A, B, C
         why: &mut WriteError,
     ) -> Result<(), Failed> {
         let (a, b, c, d, e) = self;
-        write_known_parts(&parts!(a, b, c, d, e), mode, sizes, target, why)
+        write_known_parts::<Pass, _, _>(&parts!(a, b, c, d, e), mode, sizes, target, why)
     }
 
     ghost one = { λ x mode can. Joined_lawful (Then_lawful (A.lawful x.0 mode can.0)
@@ -222,7 +227,8 @@ impl<A: Values, B: Values, C: Values, D: Values, E: Values, F: Values> Encoder
         note_joined::<Pass, _>(&parts!(a, b, c, d, e, f), mode, sizes)
     }
 
-    fn put<W: io::Write>(
+    #[inline(always)]
+    fn put<Pass, W: io::Write>(
         &self,
         mode: Mode,
         sizes: &mut SizesLeft<'_>,
@@ -230,7 +236,7 @@ impl<A: Values, B: Values, C: Values, D: Values, E: Values, F: Values> Encoder
         why: &mut WriteError,
     ) -> Result<(), Failed> {
         let (a, b, c, d, e, f) = self;
-        write_known_parts(&parts!(a, b, c, d, e, f), mode, sizes, target, why)
+        write_known_parts::<Pass, _, _>(&parts!(a, b, c, d, e, f), mode, sizes, target, why)
     }
 
     ghost one = { λ x mode can. Joined_lawful (Then_lawful (A.lawful x.0 mode can.0)
@@ -264,7 +270,8 @@ impl<A: Values, B: Values, C: Values, D: Values, E: Values, F: Values, G: Values
         note_joined::<Pass, _>(&parts!(a, b, c, d, e, f, g), mode, sizes)
     }
 
-    fn put<W: io::Write>(
+    #[inline(always)]
+    fn put<Pass, W: io::Write>(
         &self,
         mode: Mode,
         sizes: &mut SizesLeft<'_>,
@@ -272,7 +279,7 @@ impl<A: Values, B: Values, C: Values, D: Values, E: Values, F: Values, G: Values
         why: &mut WriteError,
     ) -> Result<(), Failed> {
         let (a, b, c, d, e, f, g) = self;
-        write_known_parts(&parts!(a, b, c, d, e, f, g), mode, sizes, target, why)
+        write_known_parts::<Pass, _, _>(&parts!(a, b, c, d, e, f, g), mode, sizes, target, why)
     }
 
     ghost one = { λ x mode can. Joined_lawful (Then_lawful (A.lawful x.0 mode can.0)
@@ -309,7 +316,8 @@ impl<A: Values, B: Values, C: Values, D: Values, E: Values, F: Values, G: Values
         note_joined::<Pass, _>(&parts!(a, b, c, d, e, f, g, h), mode, sizes)
     }
 
-    fn put<W: io::Write>(
+    #[inline(always)]
+    fn put<Pass, W: io::Write>(
         &self,
         mode: Mode,
         sizes: &mut SizesLeft<'_>,
@@ -317,7 +325,7 @@ impl<A: Values, B: Values, C: Values, D: Values, E: Values, F: Values, G: Values
         why: &mut WriteError,
     ) -> Result<(), Failed> {
         let (a, b, c, d, e, f, g, h) = self;
-        write_known_parts(&parts!(a, b, c, d, e, f, g, h), mode, sizes, target, why)
+        write_known_parts::<Pass, _, _>(&parts!(a, b, c, d, e, f, g, h), mode, sizes, target, why)
     }
 
     ghost one = { λ x mode can. Joined_lawful (Then_lawful (A.lawful x.0 mode can.0)
@@ -366,7 +374,8 @@ impl<
         note_joined::<Pass, _>(&parts!(a, b, c, d, e, f, g, h, i), mode, sizes)
     }
 
-    fn put<W: io::Write>(
+    #[inline(always)]
+    fn put<Pass, W: io::Write>(
         &self,
         mode: Mode,
         sizes: &mut SizesLeft<'_>,
@@ -374,7 +383,13 @@ impl<
         why: &mut WriteError,
     ) -> Result<(), Failed> {
         let (a, b, c, d, e, f, g, h, i) = self;
-        write_known_parts(&parts!(a, b, c, d, e, f, g, h, i), mode, sizes, target, why)
+        write_known_parts::<Pass, _, _>(
+            &parts!(a, b, c, d, e, f, g, h, i),
+            mode,
+            sizes,
+            target,
+            why,
+        )
     }
 
     ghost one = { λ x mode can. Joined_lawful (Then_lawful (A.lawful x.0 mode can.0)
@@ -425,7 +440,8 @@ impl<
         note_joined::<Pass, _>(&parts!(a, b, c, d, e, f, g, h, i, j), mode, sizes)
     }
 
-    fn put<W: io::Write>(
+    #[inline(always)]
+    fn put<Pass, W: io::Write>(
         &self,
         mode: Mode,
         sizes: &mut SizesLeft<'_>,
@@ -433,7 +449,7 @@ impl<
         why: &mut WriteError,
     ) -> Result<(), Failed> {
         let (a, b, c, d, e, f, g, h, i, j) = self;
-        write_known_parts(
+        write_known_parts::<Pass, _, _>(
             &parts!(a, b, c, d, e, f, g, h, i, j),
             mode,
             sizes,
@@ -495,7 +511,8 @@ impl<
         note_joined::<Pass, _>(&parts!(a, b, c, d, e, f, g, h, i, j, k), mode, sizes)
     }
 
-    fn put<W: io::Write>(
+    #[inline(always)]
+    fn put<Pass, W: io::Write>(
         &self,
         mode: Mode,
         sizes: &mut SizesLeft<'_>,
@@ -503,7 +520,7 @@ impl<
         why: &mut WriteError,
     ) -> Result<(), Failed> {
         let (a, b, c, d, e, f, g, h, i, j, k) = self;
-        write_known_parts(
+        write_known_parts::<Pass, _, _>(
             &parts!(a, b, c, d, e, f, g, h, i, j, k),
             mode,
             sizes,
@@ -569,7 +586,8 @@ impl<
         note_joined::<Pass, _>(&parts!(a, b, c, d, e, f, g, h, i, j, k, l), mode, sizes)
     }
 
-    fn put<W: io::Write>(
+    #[inline(always)]
+    fn put<Pass, W: io::Write>(
         &self,
         mode: Mode,
         sizes: &mut SizesLeft<'_>,
@@ -577,7 +595,7 @@ impl<
         why: &mut WriteError,
     ) -> Result<(), Failed> {
         let (a, b, c, d, e, f, g, h, i, j, k, l) = self;
-        write_known_parts(
+        write_known_parts::<Pass, _, _>(
             &parts!(a, b, c, d, e, f, g, h, i, j, k, l),
             mode,
             sizes,

@@ -10,7 +10,7 @@ ghost use Rattle.bcder.specs.laws.StringMeanings.{StringMeans_lawful};
 
 use super::write::{octets_len, put_octets, put_string, string_len};
 use super::{OctetString, Octets};
-use crate::encode::sizes::{Sizes, SizesLeft};
+use crate::encode::sizes::{Inside, Sizes, SizesLeft};
 use crate::encode::values::Encoder;
 use crate::encode::{Constructed, EncodeError, Failed, Values, WriteError};
 use crate::mode::Mode;
@@ -101,7 +101,7 @@ fn put<W: io::Write>(
     match &string.octets {
         Octets::Whole(octets) => put_octets(tag, octets.as_slice(), mode, target, why),
         Octets::Cut(kept, _) => match mode {
-            Mode::Ber => Constructed::new(tag, kept).write_known(
+            Mode::Ber => Constructed::new(tag, kept).write_known::<Inside, _>(
                 mode,
                 &mut SizesLeft::none(),
                 target,
@@ -126,7 +126,7 @@ impl Encoder for OctetStringEncoder<OctetString> {
     }
 
     #[tactic(auto, using(crate::proofs::Noting::none_read))]
-    fn put<W: io::Write>(
+    fn put<Pass, W: io::Write>(
         &self,
         mode: Mode,
         _sizes: &mut SizesLeft<'_>,
@@ -151,7 +151,7 @@ impl Encoder for OctetStringEncoder<&'_ OctetString> {
     }
 
     #[tactic(auto, using(crate::proofs::Noting::none_read))]
-    fn put<W: io::Write>(
+    fn put<Pass, W: io::Write>(
         &self,
         mode: Mode,
         _sizes: &mut SizesLeft<'_>,

@@ -65,7 +65,7 @@ impl<T: AsSlice<u8>> Encoder for OctetSliceEncoder<T> {
     }
 
     #[tactic(auto, using(crate::proofs::Noting::none_read))]
-    fn put<W: io::Write>(
+    fn put<Pass, W: io::Write>(
         &self,
         mode: Mode,
         _sizes: &mut SizesLeft<'_>,

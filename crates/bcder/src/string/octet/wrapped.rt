@@ -12,7 +12,7 @@ use super::OctetString;
 use super::write::{is_cut, put_octets, string_len};
 use crate::encode::buffer::Buffer;
 use crate::encode::header::put_header;
-use crate::encode::sizes::{Again, Sizes, SizesLeft};
+use crate::encode::sizes::{Again, Inside, Sizes, SizesLeft};
 use crate::encode::slot::{Failed, store_refusal};
 use crate::encode::target::put_all;
 use crate::encode::values::{Encoder, note_inside};
@@ -77,12 +77,12 @@ fn put_straight<V: Values, W: io::Write>(
 {
     if len > 64 {
         put_header(target, Tag::OCTET_STRING, false, Length::Definite(len), why)?;
-        return values.write_known(inner, sizes, target, why);
+        return values.write_known::<Inside, _>(inner, sizes, target, why);
     }
     let mut buffer = Buffer::new();
     Tag::OCTET_STRING.spell(false, &mut buffer);
     Length::Definite(len).spell(&mut buffer);
-    values.write_known(inner, sizes, &mut buffer, why)?;
+    values.write_known::<Inside, _>(inner, sizes, &mut buffer, why)?;
     put_all(target, buffer.as_slice(), why)
 }
 
@@ -205,7 +205,7 @@ impl<V: Values> Encoder for WrappingOctetStringEncoder<V> {
         string_len(Tag::OCTET_STRING, mode, len)
     }
 
-    fn put<W: io::Write>(
+    fn put<Pass, W: io::Write>(
         &self,
         mode: Mode,
         sizes: &mut SizesLeft<'_>,
