@@ -34,3 +34,4 @@ pub mod CharacterLaws
 pub mod NamedBitLists
 pub mod RelativeIdentifiers
 pub mod Times
+pub mod Reals

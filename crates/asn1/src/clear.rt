@@ -23,6 +23,7 @@ mod named_bits;
 mod numbers;
 mod parts;
 mod plain;
+mod reals;
 mod sets;
 mod strings;
 mod tagged;

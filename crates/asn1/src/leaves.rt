@@ -9,6 +9,7 @@ mod named_bits;
 mod numbers;
 mod octet_strings;
 mod plain;
+mod reals;
 mod times;
 
 pub use characters::TaggedCharSet;

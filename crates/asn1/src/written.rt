@@ -20,6 +20,7 @@ mod lists;
 mod named_bits;
 mod numbers;
 mod plain;
+mod reals;
 mod sets;
 mod strings;
 mod tagged;

@@ -47,6 +47,8 @@ mod numbers;
 #[cfg(test)]
 mod plain;
 #[cfg(test)]
+mod reals;
+#[cfg(test)]
 mod recursion;
 #[cfg(test)]
 mod relative;
