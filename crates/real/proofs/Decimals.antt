@@ -1,25 +1,20 @@
 -- Octets mean one decimal number at most.
 use Rattle.std.proofs.Common.{◌≡◌, ℕ, ◌≤◌, Bool}
-use Rattle.std.proofs.Common.{List, [], ◌∷◌, ◌++◌, length, take, drop, replicate, refl, sym, ap, ◌∙◌, subst, arith, inl, inr, ◌⊎◌}
+use Rattle.std.proofs.Common.{List, [], ◌∷◌, ◌++◌, length, take, drop, replicate, refl, sym, ap, ◌∙◌, subst, arith, inl, inr}
 use Rattle.std.proofs.Common.{ℤ, pos, ◌+ℤ◌}
 use Rattle.std.proofs.lemmas.Int.{ints}
 use Rattle.std.proofs.lemmas.List.{take_at, drop_at, append-nil, length-replicate}
 use Rattle.std.specs.List.{prefix_len}
 use Rattle.real.specs.Number.{DecimalNumber, IsDecimalNumber}
-use Rattle.real.specs.Decimal.{is_digit, AreDigits, number, IsSign, IsExponent, IsScale, IsMarked, IsTail, IsDecimal}
+use Rattle.real.specs.Decimal.{is_digit, AreDigits, number, IsSign, IsScale, IsMarked, IsTail, IsDecimal}
 use Rattle.real.specs.Scan.{is_minus, behind_sign, unspaced, whole_of, tail_of, IsMantissa}
 use Rattle.real.specs.Contents.{MeansDecimal}
 use Rattle.real.proofs.Texts.{ten_one, digits_front, spaces_front, sign_front, digits_start, tail_starts, Starts}
 
 -- ---- the scale
 
-rest_of : List ℕ → List ℕ
-rest_of [] = []
-rest_of (b ∷ w) = w
-
-pub same_rest : (a b : ℕ) (v w : List ℕ) → a ∷ v ≡ b ∷ w → v ≡ w
-unfolding rest_of
-same_rest a b v w e = ap rest_of e
+same_rest : (a b : ℕ) (v w : List ℕ) → a ∷ v ≡ b ∷ w → v ≡ w
+same_rest a b v w e = cc
 
 nothing_starts : Starts []
 nothing_starts = record { no_space = refl; no_minus = refl; no_sign = refl }
@@ -71,23 +66,6 @@ found_at w f s e d n =
       scale = rw (c, e) (drop_at f s (length f) refl);
     }
 
--- a scale's digits, which stand behind the letter
-pub exponent_of : (letter : ℕ) (w v : List ℕ) (z : ℤ) → w ≡ letter ∷ v → (h : IsScale w z) → IsExponent (behind_sign v) h.size
-exponent_of letter w v z e h =
-    let k = subst (λ w. IsScale w z) e h in
-    let f = found_scale letter v z k in
-    subst (λ d. IsExponent d h.size) (sym f.digits) k.is_exponent
-
-pub letter_of : (letter : ℕ) (w v : List ℕ) (z : ℤ) → w ≡ letter ∷ v → IsScale w z → (letter ≡ 0x45) ⊎ (letter ≡ 0x65)
-letter_of letter w v z e h =
-    let l : h.letter ≡ letter = cc (h.octets, e) in
-    subst (λ l. (l ≡ 0x45) ⊎ (l ≡ 0x65)) l h.is_letter
-
-pub mark_of : (form mark : ℕ) (w v f : List ℕ) (z : ℤ) → w ≡ mark ∷ v → IsMarked form w f z → (mark ≡ 0x2E) ⊎ (mark ≡ 0x2C)
-mark_of form mark w v f z e h =
-    let l : h.mark ≡ mark = cc (h.octets, e) in
-    subst (λ l. (l ≡ 0x2E) ⊎ (l ≡ 0x2C)) l h.is_mark
-
 pub found_mark : (form mark : ℕ) (w f : List ℕ) (z : ℤ) → (h : IsMarked form (mark ∷ w) f z) → FoundMark w f h.scale
 found_mark form mark w f z h =
     found_at w f h.scale (same_rest mark h.mark w (f ++ h.scale) h.octets) h.are_digits (no_digit form (mark ∷ w) f z h)
@@ -109,9 +87,6 @@ without_scale form mark w v f z e t h =
           let c = g.count in omega arith
       | inr p ↦ absurd (omega (arith, p.0))
     ]
-
-pub of_form : (form : ℕ) (w f : List ℕ) (z : ℤ) → IsMarked form w f z → (form ≡ 2 → ⊥) → (form ≡ 3 → ⊥) → ⊥
-of_form form w f z h a b = elim h.is_scale [ inl p ↦ a p.0 | inr p ↦ b p.0 ]
 
 marked_one : (form mark : ℕ) (w f g : List ℕ) (y z : ℤ) → IsMarked form (mark ∷ w) f y → IsMarked form (mark ∷ w) g z → (f ≡ g) × (y ≡ z)
 marked_one form mark w f g y z h k =

@@ -1,8 +1,10 @@
--- Decimal numbers in octets (ITU-T X.690, 8.5.8 and 11.3.2), which are characters of ISO 646 in the forms of ISO 6093.
+-- Decimal numbers in octets (ITU-T X.690, 8.5.8 and 11.3.2): characters of ISO 646, in the forms NR1, NR2 and NR3 of ISO 6093.
 use Rattle.std.specs.Prelude.{◌≡◌, ℕ, ◌+◌, ◌-◌, ◌*◌, ◌^◌, ◌<◌, ◌≤◌, ◌==◌, ◌⊎◌, nat_lt, Bool, false, true, List, [], ◌∷◌, ◌++◌}
 use Rattle.std.specs.Prelude.{length, map, replicate, if◌then◌else◌, ℤ, pos, negsuc, ◌+ℤ◌, ◌-ℤ◌}
 use Rattle.std.specs.Int.Digits.{digits_of}
 use Rattle.real.specs.Number.{DecimalNumber, IsDecimalNumber}
+
+-- ---- digits and signs
 
 -- 0 to 9
 abbrev pub is_digit : ℕ → Bool
@@ -28,6 +30,8 @@ IsSign w true = w ≡ 0x2D ∷ []
 -- n, or its negative
 abbrev pub with_sign : Bool → ℕ → ℤ
 with_sign negative n = if negative then (pos 0 -ℤ pos n) else pos n
+
+-- ---- what octets mean (8.5.8)
 
 -- at least one digit. The crate's limit: a number below 2 to the 32
 pub record IsExponent (w : List ℕ) (n : ℕ) : Type 0 where
@@ -62,8 +66,8 @@ pub record IsMarked (form : ℕ) (w fraction : List ℕ) (z : ℤ) : Type 0 wher
 abbrev pub IsTail : ℕ → List ℕ → List ℕ → ℤ → Type 0
 IsTail form w fraction z = ((form ≡ 1) × (w ≡ []) × (fraction ≡ []) × (z ≡ pos 0)) ⊎ IsMarked form w fraction z
 
--- 8.5.8: form is bits 6 to 1 of the first octet: 1, 2 or 3 for NR1, NR2 or NR3. Zero is no decimal number (8.5.2, 8.5.9), so there is
--- a digit that isn't 0. The crate's limits: those of the scale, and a number that a `Decimal` holds
+-- 8.5.8: spaces, a sign, digits and what stands behind them. The form is 1, 2 or 3 for NR1, NR2 or NR3. Zero is no decimal number (8.5.2,
+-- 8.5.9), so there is a digit that isn't 0. The crate's limits: that of the scale, and a number that a `Decimal` holds
 pub record IsDecimal (form : ℕ) (w : List ℕ) (x : DecimalNumber) : Type 0 where
   pub spaces : ℕ
   pub sign : List ℕ
@@ -84,10 +88,11 @@ pub record IsDecimal (form : ℕ) (w : List ℕ) (x : DecimalNumber) : Type 0 wh
 
 -- ---- the octets of CER and DER (11.3.2)
 
--- the digits of n, none of them a zero in front
+-- 11.3.2.4: the digits of n, with no zero in front
 abbrev pub digits : ℕ → List ℕ
 digits n = map (λ d. 0x30 + d) (digits_of 10 n)
 
+-- 11.3.2.3: a minus sign if the number is negative
 abbrev pub minus : Bool → List ℕ
 minus negative = if negative then (0x2D ∷ []) else []
 
@@ -96,6 +101,7 @@ abbrev pub scale_octets : ℤ → List ℕ
 scale_octets (pos n) = if n == 0 then (0x2B ∷ 0x30 ∷ []) else digits n
 scale_octets (negsuc n) = 0x2D ∷ digits (n + 1)
 
--- 11.3.2: NR3, no space, no zero in front or at the end of the digits, a full stop, and "E"
+-- 11.3.2.1, 11.3.2.2, 11.3.2.5: NR3 with no space, a full stop behind the digits, and "E". The last digit isn't 0 (11.3.2.4), since the
+-- mantissa is no multiple of ten
 unfoldable pub decimal_octets : DecimalNumber → List ℕ
 decimal_octets x = 3 ∷ minus x.negative ++ digits x.mantissa ++ 0x2E ∷ 0x45 ∷ scale_octets x.exponent

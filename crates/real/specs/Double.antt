@@ -21,7 +21,7 @@ pub record IsDouble (bits : ℕ) (x : BinaryNumber) : Type 0 where
   pub exponent_is : x.exponent +ℤ pos 1074 ≡ pos (biased bits - 1 + power)
   pub held : IsBinaryNumber x
 
--- what 64 bits mean
+-- what 64 bits mean; a decimal number if its binary number is theirs
 abbrev pub MeansDouble : ℕ → Real → Type 0
 MeansDouble bits Zero = bits ≡ 0
 MeansDouble bits MinusZero = bits ≡ 9223372036854775808

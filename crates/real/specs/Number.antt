@@ -40,7 +40,7 @@ abbrev pub IsFives : ℕ → ℤ → ℕ → Type 0
 IsFives m (pos k) n = m * 5 ^ k ≡ n
 IsFives m (negsuc k) n = m ≡ n * 5 ^ suc k
 
--- a decimal number and a binary one are the same number, as ten is five times two
+-- a decimal number and a binary one are the same number: ten is five times two, and power is how many twos are taken out of the mantissa
 pub record IsSame (x : DecimalNumber) (y : BinaryNumber) : Type 0 where
   pub sign : y.negative ≡ x.negative
   pub power : ℕ

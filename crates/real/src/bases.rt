@@ -21,7 +21,7 @@ fn times_fives(number: u64, count: u32) -> Option<u64>
     times_fives(number * 5, count - 1)
 }
 
-/// Returns what five to the power of a count has to be multiplied by for a number, if anything.
+/// Returns a number divided by five to the power of a count, if nothing remains.
 fn over_fives(number: u64, count: u32) -> Option<u64>
     ensures { MatchOption result ((n : ℕ) → number ≡ n * 5 ^ count → ⊥)
         (λ r. number ≡ r * 5 ^ count) }

@@ -51,7 +51,7 @@ fn sign(octets: &[u8]) -> (bool, &[u8])
     }
 }
 
-/// Returns the number of digits, if it has at most 32 bits.
+/// Returns the number that digits are, if it has at most 32 bits.
 fn number(octets: &[u8]) -> Option<u32>
     ensures { MatchOption result (2 ^ 32 ≤ number octets.now)
         (λ r. (r ≡ number octets.now) × (r < 2 ^ 32)) }
@@ -66,7 +66,7 @@ fn number(octets: &[u8]) -> Option<u32>
     Some(number as u32)
 }
 
-/// Returns the number of digits, if there are any and it has at most 32 bits.
+/// Returns the number that octets are, if they are digits and it has at most 32 bits.
 fn exponent(octets: &[u8]) -> Option<u32>
     ensures { MatchOption result ((n : ℕ) → IsExponent octets.now n → ⊥)
         (λ n. IsExponent octets.now n) }
@@ -190,8 +190,8 @@ fn raised(number: u64, count: usize) -> Option<u64>
     raised(number * 10, count - 1)
 }
 
-/// Returns a number with a digit behind it, both as what is left without the zeros at the end,
-/// and how many these are.
+/// Returns a number with a digit behind it, if it has at most 64 bits without the zeros at its
+/// end. Both numbers are given without these, and with how many they are.
 fn with_digit(number: u64, zeros: usize, digit: u8) -> Option<(u64, usize)>
     requires stripped { IsStripped (number * 10 ^ zeros) number zeros }
     requires digit { digit < 10 }
@@ -215,8 +215,8 @@ fn with_digit(number: u64, zeros: usize, digit: u8) -> Option<(u64, usize)>
     Some((front + u64::from(digit), 0))
 }
 
-/// Returns a number with digits behind it, both as what is left without the zeros at the end, and
-/// how many these are.
+/// Returns a number with digits behind it, if it has at most 64 bits without the zeros at its
+/// end. Both numbers are given without these, and with how many they are.
 fn with_digits(number: u64, zeros: usize, octets: &[u8]) -> Option<(u64, usize)>
     requires stripped { IsStripped (number * 10 ^ zeros) number zeros }
     requires digits { AreDigits octets.now }
@@ -237,7 +237,7 @@ fn with_digits(number: u64, zeros: usize, octets: &[u8]) -> Option<(u64, usize)>
     Some((number, zeros))
 }
 
-/// Returns the number of the digits before and behind a mark, without the zeros at the end, and
+/// Returns the number of the digits before and behind a mark without the zeros at its end, and
 /// how many these are, if it isn't zero and has at most 64 bits.
 fn mantissa(whole: &[u8], fraction: &[u8]) -> Option<(u64, usize)>
     requires whole { AreDigits whole.now }
