@@ -1,19 +1,24 @@
 -- The octets that are written mean the value.
 use Rattle.std.proofs.Common.{◌≡◌, ℕ, zero, suc, ◌+◌, ◌-◌, ◌*◌, ◌/◌, ◌%◌, ◌^◌, ◌<◌, ◌≤◌, Bool, true, false, ◌==◌, if◌then◌else◌, nat_le}
-use Rattle.std.proofs.Common.{List, [], ◌∷◌, ◌++◌, length, refl, ap, ◌∙◌, subst, arith, Some, inl, inr}
+use Rattle.std.proofs.Common.{List, [], ◌∷◌, ◌++◌, length, map, refl, sym, append_assoc, ap, ◌∙◌, subst, arith, Some, inl, inr}
 use Rattle.std.proofs.Common.{ℤ, pos, negsuc, ◌+ℤ◌, ◌-ℤ◌, ◌*ℤ◌, w32, FitsSigned, length-append}
 use Rattle.std.proofs.Math.Nat.{pow-succ'}
 use Rattle.std.proofs.Math.Seq.{take-append_seam, drop-append_seam}
-use Rattle.std.proofs.lemmas.Bool.{cases_lt}
+use Rattle.std.proofs.lemmas.Bool.{cases_lt, ne_eqb}
 use Rattle.std.proofs.lemmas.Int.{ints}
+use Rattle.std.proofs.lemmas.List.{append-nil, length-map}
+use Rattle.std.proofs.lemmas.Int.Digits.{all_below_base_digits_of, number_digits_of, length-digits_of_step}
+use Rattle.std.specs.Int.Digits.{digits_of, number_from_digits_after, AllBelowBase}
 use Rattle.std.specs.Int.{complement_if}
-use Rattle.real.specs.Number.{BinaryNumber, IsBinaryNumber}
+use Rattle.real.specs.Number.{BinaryNumber, IsBinaryNumber, DecimalNumber, IsDecimalNumber}
+use Rattle.real.specs.Decimal.{AreDigits, number_from, number, digits, minus, scale_octets, decimal_octets, IsSign, IsExponent, IsScale}
 use Rattle.real.specs.Octets.{unsigned_from, unsigned, signed, cut, is_smallest, parts, big_endian}
 use Rattle.real.specs.Octets.{octet, complement, exponent_len, with_len, binary_octets, binary_octets_of, exponent_octets}
-use Rattle.real.specs.Contents.{IsBinary, MeansBinary, Means, IsReal, IsHeld, real_octets}
+use Rattle.real.specs.Contents.{IsBinary, MeansBinary, MeansDecimal, Means, IsReal, IsHeld, real_octets}
 use Rattle.real.specs.declared.value.Real.{Real}
-use Rattle.real.specs.declared.value.Real.TheVariants.{Zero, MinusZero, Infinity, MinusInfinity, NotANumber, Binary}
+use Rattle.real.specs.declared.value.Real.TheVariants.{Zero, MinusZero, Infinity, MinusInfinity, NotANumber, Binary, Decimal}
 use Rattle.real.proofs.Numbers.{big_endian-some, signed_positive, signed_negative}
+use Rattle.real.proofs.Texts.{digit_from}
 use Rattle.real.proofs.Ones.{Parts}
 
 -- ---- the mantissa
@@ -182,6 +187,113 @@ pub binary_back : (x : BinaryNumber) → IsBinaryNumber x → MeansBinary (binar
 unfolding binary_octets
 binary_back x h = exponent_back x x.exponent h refl (has_bits x.exponent h.exponent)
 
+-- ---- decimal numbers
+
+number_back : (n : ℕ) (ds : List ℕ) → number_from n (map (λ d. 0x30 + d) ds) ≡ number_from_digits_after 10 n ds
+number_back n [] = refl
+number_back n (d ∷ ds) =
+    let e : n * 10 + (0x30 + d - 0x30) ≡ n * 10 + d = omega arith in
+    ap (λ m. number_from m (map (λ d. 0x30 + d) ds)) e ∙ number_back (n * 10 + d) ds
+
+are_digits_back : (ds : List ℕ) → AllBelowBase 10 ds → AreDigits (map (λ d. 0x30 + d) ds)
+are_digits_back [] h = tt
+are_digits_back (d ∷ ds) h = (digit_from (0x30 + d) (omega arith) (let l = h.0 in omega arith), are_digits_back ds h.1)
+
+are_digits : (n : ℕ) → AreDigits (digits n)
+are_digits n = are_digits_back (digits_of 10 n) (all_below_base_digits_of 10 n (omega arith))
+
+number_is : (n : ℕ) → number (digits n) ≡ n
+number_is n = number_back 0 (digits_of 10 n) ∙ number_digits_of 10 n (omega arith)
+
+some_digits : (n : ℕ) → 0 < n → 1 ≤ length (digits n)
+some_digits n h = omega (arith, length-map (digits_of 10 n) (λ d. 0x30 + d), length-digits_of_step 10 n (omega arith) h)
+
+exponent_of : (n : ℕ) → 0 < n → n < 2 ^ 32 → IsExponent (digits n) n
+exponent_of n h k = record { are_digits = are_digits n; some = some_digits n h; value = sym (number_is n); below = k }
+
+minus_sign : (b : Bool) → IsSign (minus b) b
+minus_sign true = refl
+minus_sign false = inl refl
+
+scale_some : (n : ℕ) → 0 < n → n < 2 ^ 32 → IsScale (0x45 ∷ digits n) (pos n)
+scale_some n h k =
+    record {
+      letter = 0x45;
+      is_letter = inl refl;
+      sign = [];
+      digits = digits n;
+      octets = refl;
+      negative = false;
+      is_sign = inl refl;
+      size = n;
+      is_exponent = exponent_of n h k;
+      value = refl;
+    }
+
+scale_none : IsScale (0x45 ∷ 0x2B ∷ 0x30 ∷ []) (pos 0)
+scale_none =
+    record {
+      letter = 0x45;
+      is_letter = inl refl;
+      sign = 0x2B ∷ [];
+      digits = 0x30 ∷ [];
+      octets = refl;
+      negative = false;
+      is_sign = inr refl;
+      size = 0;
+      is_exponent = record { are_digits = (refl, tt); some = omega arith; value = refl; below = omega arith };
+      value = refl;
+    }
+
+scale_is : (n : ℕ) → (n == 0) ≡ false → digits n ≡ scale_octets (pos n)
+scale_is n e = rw e refl
+
+scale_back : (z : ℤ) → HasBits z → IsScale (0x45 ∷ scale_octets z) z
+scale_back (pos zero) h = scale_none
+scale_back (pos (suc n)) h =
+    subst (λ w. IsScale (0x45 ∷ w) (pos (suc n))) (scale_is (suc n) (ne_eqb (suc n) 0 (λ e. omega arith)))
+    (scale_some (suc n) (omega arith) (omega arith))
+scale_back (negsuc n) h =
+    record {
+      letter = 0x45;
+      is_letter = inl refl;
+      sign = 0x2D ∷ [];
+      digits = digits (n + 1);
+      octets = refl;
+      negative = true;
+      is_sign = refl;
+      size = n + 1;
+      is_exponent = exponent_of (n + 1) (omega arith) (omega arith);
+      value = omega (arith, ints);
+    }
+
+pub decimal_back : (x : DecimalNumber) → IsDecimalNumber x → MeansDecimal (decimal_octets x) x
+unfolding decimal_octets
+decimal_back x h =
+    record {
+      spaces = 0;
+      sign = minus x.negative;
+      whole = digits x.mantissa;
+      tail = 0x2E ∷ 0x45 ∷ scale_octets x.exponent;
+      octets = append_assoc (minus x.negative) (digits x.mantissa) (0x2E ∷ 0x45 ∷ scale_octets x.exponent);
+      is_sign = minus_sign x.negative;
+      are_digits = are_digits x.mantissa;
+      fraction = [];
+      scale = x.exponent;
+      is_tail = inr (record {
+        mark = 0x2E;
+        is_mark = inl refl;
+        scale = 0x45 ∷ scale_octets x.exponent;
+        octets = refl;
+        are_digits = tt;
+        is_scale = inr (refl, scale_back x.exponent (has_bits x.exponent h.exponent));
+      });
+      power = 0;
+      mantissa_is = ap number (append-nil (digits x.mantissa)) ∙ number_is x.mantissa ∙ omega arith;
+      exponent_is = refl;
+      held = h;
+    }
+
 means_back : (x : Real) → IsHeld x → Means (real_octets x) x
 means_back Zero h = refl
 means_back Infinity h = refl
@@ -189,6 +301,7 @@ means_back MinusInfinity h = refl
 means_back NotANumber h = refl
 means_back MinusZero h = refl
 means_back (Binary x) h = binary_back x h
+means_back (Decimal x) h = decimal_back x h
 
 pub real_back : (canonical : Bool) (x : Real) → IsHeld x → IsReal canonical (real_octets x) x
 real_back false x h = means_back x h

@@ -6,7 +6,7 @@ use Rattle.std.proofs.lemmas.Int.{ints}
 use Rattle.real.specs.Number.{BinaryNumber}
 use Rattle.real.specs.Double.{biased, significand, IsDouble, MeansDouble}
 use Rattle.real.specs.declared.value.Real.{Real}
-use Rattle.real.specs.declared.value.Real.TheVariants.{Zero, MinusZero, Infinity, MinusInfinity, NotANumber, Binary}
+use Rattle.real.specs.declared.value.Real.TheVariants.{Zero, MinusZero, Infinity, MinusInfinity, NotANumber, Binary, Decimal}
 use Rattle.real.proofs.Numbers.{twice}
 
 doubling : (m j : ℕ) → m * 2 ^ suc j ≡ 2 * (m * 2 ^ j)
@@ -64,3 +64,4 @@ no_nan Infinity bits n h = omega arith
 no_nan MinusInfinity bits n h = omega arith
 no_nan NotANumber bits n h = absurd (n refl)
 no_nan (Binary x) bits n h = let f = h.finite in omega arith
+no_nan (Decimal x) bits n h = let f = h.2.finite in omega arith

@@ -1,12 +1,15 @@
 -- Numbers in octets: reading and writing them.
 use Rattle.std.proofs.Common.{◌≡◌, ◌≢◌, ℕ, zero, suc, ◌+◌, ◌-◌, ◌*◌, ◌/◌, ◌%◌, ◌^◌, ◌<◌, ◌≤◌, Bool, true, false, if◌then◌else◌}
-use Rattle.std.proofs.Common.{List, [], ◌∷◌, ◌++◌, length, get_or, drop, refl, ap, arith, append_assoc, add-one}
+use Rattle.std.proofs.Common.{List, [], ◌∷◌, ◌++◌, length, get_or, drop, map, refl, sym, ap, ◌∙◌, arith, append_assoc, add-one}
 use Rattle.std.proofs.Math.Nat.{pow-succ'}
-use Rattle.std.proofs.lemmas.List.{drop_more}
+use Rattle.std.proofs.lemmas.List.{drop_more, map-append}
+use Rattle.std.proofs.lemmas.Int.Digits.{digits_of_step}
+use Rattle.std.specs.Int.Digits.{digits_of}
 use Rattle.std.specs.Prelude.{pos, ◌-ℤ◌}
 use Rattle.std.specs.Int.{complement_if}
 use Rattle.real.specs.Number.{BinaryNumber}
 use Rattle.real.specs.Octets.{unsigned_from, unsigned, signed, big_endian, complement, octet, exponent_len, with_len, binary_octets}
+use Rattle.real.specs.Decimal.{digits}
 
 -- ---- reading
 
@@ -107,3 +110,19 @@ twice r q = omega arith
 
 pub doubled : (n r p : ℕ) → (n % 2 ≡ 1 → ⊥) → n / 2 ≡ r * 2 ^ p → n ≡ r * 2 ^ (p + 1)
 doubled n r p e h = rw (add-one, pow-succ' 2 p, twice r (2 ^ p)) (omega arith)
+
+-- ---- digits
+
+pub digits-some : (n : ℕ) → n ≢ 0 → digits n ≡ digits (n / 10) ++ (0x30 + n % 10) ∷ []
+digits-some n h =
+    ap (map (λ d. 0x30 + d)) (digits_of_step 10 n (omega arith) (omega arith)) ∙ map-append (λ d. 0x30 + d) (digits_of 10 (n / 10)) (n % 10 ∷ [])
+
+pub digits_back : (before : List ℕ) (n : ℕ) → n ≢ 0 → (before ++ digits (n / 10)) ++ (0x30 + n % 10) ∷ [] ≡ before ++ digits n
+digits_back before n h = append_assoc before (digits (n / 10)) ((0x30 + n % 10) ∷ []) ∙ ap (λ v. before ++ v) (sym (digits-some n h))
+
+pub tenth_fits : (k n : ℕ) → n ≢ 0 → n < 10 ^ k → (1 ≤ k) × (n / 10 < 10 ^ (k - 1))
+tenth_fits zero n h l = absurd (h (omega arith))
+tenth_fits (suc k) n h l =
+    let back : suc k - 1 ≡ k = omega arith in
+    let p = pow-succ' 10 k in
+    (omega arith, rw back (omega arith))

@@ -1,14 +1,17 @@
 -- Contents octets mean one value at most.
 use Rattle.std.proofs.Common.{◌≡◌, ℕ, zero, suc, ◌+◌, ◌*◌, ◌/◌, ◌%◌, ◌^◌, ◌<◌, Bool, true, false, ◌==◌, if◌then◌else◌, min}
 use Rattle.std.proofs.Common.{List, [], ◌∷◌, get_or, refl, sym, ap, ◌∙◌, subst, arith, Option, Some, None, inl, inr}
-use Rattle.std.proofs.Common.{pos, ◌+ℤ◌, ◌*ℤ◌}
+use Rattle.std.proofs.Common.{ℤ, pos, ◌+ℤ◌, ◌*ℤ◌, ◌⊎◌, ◌≤◌}
+use Rattle.std.specs.Prelude.{nat_lt}
 use Rattle.std.proofs.Math.Nat.{pow-succ'}
-use Rattle.real.specs.Number.{BinaryNumber}
+use Rattle.real.specs.Number.{BinaryNumber, DecimalNumber}
 use Rattle.real.specs.Octets.{unsigned, signed, parts}
-use Rattle.real.specs.Contents.{IsBase, IsBinary, MeansBinary, Means, real_octets, IsReal}
+use Rattle.real.specs.Contents.{IsBase, IsBinary, MeansBinary, MeansDecimal, Means, real_octets, IsReal}
+use Rattle.real.specs.Decimal.{IsTail}
 use Rattle.real.specs.declared.value.Real.{Real}
-use Rattle.real.specs.declared.value.Real.TheVariants.{Zero, MinusZero, Infinity, MinusInfinity, NotANumber, Binary}
+use Rattle.real.specs.declared.value.Real.TheVariants.{Zero, MinusZero, Infinity, MinusInfinity, NotANumber, Binary, Decimal}
 use Rattle.real.proofs.Numbers.{twice}
+use Rattle.real.proofs.Decimals.{means_decimal_one}
 
 abbrev pub Parts : Type 0
 Parts = Option (List ℕ × List ℕ)
@@ -75,7 +78,7 @@ same_exponent first rest e m odd power k x p h =
     let powers = (same_mantissa first rest e m odd power k x p h).1 in
     h.exponent_is ∙ rw (one, base, powers) refl
 
-same_number : (x y : BinaryNumber) → x.negative ≡ y.negative → x.mantissa ≡ y.mantissa → x.exponent ≡ y.exponent → x ≡ y
+pub same_number : (x y : BinaryNumber) → x.negative ≡ y.negative → x.mantissa ≡ y.mantissa → x.exponent ≡ y.exponent → x ≡ y
 same_number x y a b c =
     let z : BinaryNumber = record { negative = y.negative; mantissa = y.mantissa; exponent = y.exponent } in
     let e : x ≡ z = rw (← a, ← b, ← c) refl in
@@ -101,30 +104,51 @@ kind MinusInfinity = 65
 kind NotANumber = 66
 kind MinusZero = 67
 kind (Binary x) = 128
+kind (Decimal x) = 1
 
 of_kind : ℕ → Real
 of_kind n =
     if n == 0 then Zero
     else (if n == 64 then Infinity else (if n == 65 then MinusInfinity else (if n == 66 then NotANumber else MinusZero)))
 
-pub first_is_kind : (w : List ℕ) (x : Real) → Means w x → min (get_or w 0 0) 128 ≡ kind x
-unfolding kind
-first_is_kind w Zero h = ap (λ v. min (get_or v 0 0) 128) h
-first_is_kind w Infinity h = ap (λ v. min (get_or v 0 0) 128) h
-first_is_kind w MinusInfinity h = ap (λ v. min (get_or v 0 0) 128) h
-first_is_kind w NotANumber h = ap (λ v. min (get_or v 0 0) 128) h
-first_is_kind w MinusZero h = ap (λ v. min (get_or v 0 0) 128) h
-first_is_kind [] (Binary x) h = absurd h
-first_is_kind (first ∷ rest) (Binary x) h = let b = h.binary in omega arith
+-- the kind of what octets mean that begin so
+abbrev pub kind_of : List ℕ → ℕ
+kind_of w = if nat_lt (get_or w 0 0) 4 then min (get_or w 0 0) 1 else min (get_or w 0 0) 128
 
-special : (x : Real) → kind x < 128 → x ≡ of_kind (kind x)
+form_range : (form : ℕ) (t f : List ℕ) (z : ℤ) → IsTail form t f z → (1 ≤ form) × (form < 4)
+form_range form t f z (inl h) = (omega arith, omega arith)
+form_range form t f z (inr h) = elim h.is_scale [ inl s ↦ (omega (arith, s.0), omega (arith, s.0)) | inr s ↦ (omega (arith, s.0), omega (arith, s.0)) ]
+
+kind_low : (first : ℕ) (w : List ℕ) → 1 ≤ first → first < 4 → kind_of (first ∷ w) ≡ 1
+kind_low first w h k = grind arith
+
+kind_high : (first : ℕ) (w : List ℕ) → 128 ≤ first → kind_of (first ∷ w) ≡ 128
+kind_high first w h = grind arith
+
+pub first_is_kind : (w : List ℕ) (x : Real) → Means w x → kind_of w ≡ kind x
+unfolding kind
+first_is_kind w Zero h = ap kind_of h
+first_is_kind w Infinity h = ap kind_of h
+first_is_kind w MinusInfinity h = ap kind_of h
+first_is_kind w NotANumber h = ap kind_of h
+first_is_kind w MinusZero h = ap kind_of h
+first_is_kind [] (Binary x) h = absurd h
+first_is_kind (first ∷ rest) (Binary x) h = kind_high first rest h.binary
+first_is_kind [] (Decimal x) h = absurd h
+first_is_kind (first ∷ rest) (Decimal x) h =
+    let f = form_range first h.tail h.fraction h.scale h.is_tail in
+    kind_low first rest f.0 f.1
+
+special : (x : Real) → 1 < kind x ⊎ (kind x ≡ 0) → kind x < 128 → x ≡ of_kind (kind x)
 unfolding kind of_kind
-special Zero h = refl
-special Infinity h = refl
-special MinusInfinity h = refl
-special NotANumber h = refl
-special MinusZero h = refl
-special (Binary x) h = absurd (omega arith)
+special Zero k h = refl
+special Infinity k h = refl
+special MinusInfinity k h = refl
+special NotANumber k h = refl
+special MinusZero k h = refl
+special (Binary x) k h = absurd (omega arith)
+special (Decimal x) (inl k) h = absurd (omega arith)
+special (Decimal x) (inr k) h = absurd (omega arith)
 
 is_binary : (x : Real) → kind x ≡ 128 → (a : BinaryNumber) × (x ≡ Binary a)
 unfolding kind
@@ -134,21 +158,38 @@ is_binary MinusInfinity h = absurd (omega arith)
 is_binary NotANumber h = absurd (omega arith)
 is_binary MinusZero h = absurd (omega arith)
 is_binary (Binary x) h = (x, refl)
+is_binary (Decimal x) h = absurd (omega arith)
 
-same_special : (x y : Real) → kind x ≡ kind y → kind y < 128 → x ≡ y
-same_special x y e h = special x (omega arith) ∙ ap of_kind e ∙ sym (special y h)
+is_decimal : (x : Real) → kind x ≡ 1 → (a : DecimalNumber) × (x ≡ Decimal a)
+unfolding kind
+is_decimal Zero h = absurd (omega arith)
+is_decimal Infinity h = absurd (omega arith)
+is_decimal MinusInfinity h = absurd (omega arith)
+is_decimal NotANumber h = absurd (omega arith)
+is_decimal MinusZero h = absurd (omega arith)
+is_decimal (Binary x) h = absurd (omega arith)
+is_decimal (Decimal x) h = (x, refl)
+
+same_special : (x y : Real) → kind x ≡ kind y → 1 < kind y ⊎ (kind y ≡ 0) → kind y < 128 → x ≡ y
+same_special x y e k h =
+    special x (subst (λ n. 1 < n ⊎ (n ≡ 0)) (sym e) k) (omega arith) ∙ ap of_kind e ∙ sym (special y k h)
 
 pub means_one : (w : List ℕ) (x y : Real) → Means w x → Means w y → x ≡ y
 unfolding kind
-means_one w x Zero h k = same_special x Zero (sym (first_is_kind w x h) ∙ first_is_kind w Zero k) (omega arith)
-means_one w x Infinity h k = same_special x Infinity (sym (first_is_kind w x h) ∙ first_is_kind w Infinity k) (omega arith)
-means_one w x MinusInfinity h k = same_special x MinusInfinity (sym (first_is_kind w x h) ∙ first_is_kind w MinusInfinity k) (omega arith)
-means_one w x NotANumber h k = same_special x NotANumber (sym (first_is_kind w x h) ∙ first_is_kind w NotANumber k) (omega arith)
-means_one w x MinusZero h k = same_special x MinusZero (sym (first_is_kind w x h) ∙ first_is_kind w MinusZero k) (omega arith)
+means_one w x Zero h k = same_special x Zero (sym (first_is_kind w x h) ∙ first_is_kind w Zero k) (inr refl) (omega arith)
+means_one w x Infinity h k = same_special x Infinity (sym (first_is_kind w x h) ∙ first_is_kind w Infinity k) (inl (omega arith)) (omega arith)
+means_one w x MinusInfinity h k =
+    same_special x MinusInfinity (sym (first_is_kind w x h) ∙ first_is_kind w MinusInfinity k) (inl (omega arith)) (omega arith)
+means_one w x NotANumber h k = same_special x NotANumber (sym (first_is_kind w x h) ∙ first_is_kind w NotANumber k) (inl (omega arith)) (omega arith)
+means_one w x MinusZero h k = same_special x MinusZero (sym (first_is_kind w x h) ∙ first_is_kind w MinusZero k) (inl (omega arith)) (omega arith)
 means_one w x (Binary y) h k =
     let b = is_binary x (sym (first_is_kind w x h) ∙ first_is_kind w (Binary y) k) in
     let m : MeansBinary w b.0 = subst (Means w) b.1 h in
     b.1 ∙ ap Binary (means_binary_one w b.0 y m k)
+means_one w x (Decimal y) h k =
+    let b = is_decimal x (sym (first_is_kind w x h) ∙ first_is_kind w (Decimal y) k) in
+    let m : MeansDecimal w b.0 = subst (Means w) b.1 h in
+    b.1 ∙ ap Decimal (means_decimal_one w b.0 y m k)
 
 pub canonical_parts : (canonical : Bool) (w : List ℕ) (x : Real) → canonical ≡ true → IsReal canonical w x → Means w x × (w ≡ real_octets x)
 canonical_parts true w x e h = h

@@ -1,10 +1,11 @@
 -- Which contents octets mean which REAL (ITU-T X.690, 8.5 and 11.3).
 use Rattle.std.specs.Prelude.{◌≡◌, ℕ, ◌+◌, ◌*◌, ◌/◌, ◌%◌, ◌^◌, ◌<◌, ◌≤◌, ◌==◌, ◌⊎◌, Bool, true, false, List, [], ◌∷◌, length, Some}
 use Rattle.std.specs.Prelude.{pos, ◌+ℤ◌, ◌*ℤ◌}
-use Rattle.real.specs.Number.{BinaryNumber, IsBinaryNumber}
+use Rattle.real.specs.Number.{BinaryNumber, IsBinaryNumber, DecimalNumber, IsDecimalNumber}
 use Rattle.real.specs.Octets.{unsigned, signed, parts, binary_octets}
+use Rattle.real.specs.Decimal.{IsDecimal, decimal_octets}
 use Rattle.real.specs.declared.value.Real.{Real}
-use Rattle.real.specs.declared.value.Real.TheVariants.{Zero, MinusZero, Infinity, MinusInfinity, NotANumber, Binary}
+use Rattle.real.specs.declared.value.Real.TheVariants.{Zero, MinusZero, Infinity, MinusInfinity, NotANumber, Binary, Decimal}
 
 -- 8.5.7.2: the base by bits 6 and 5 of the first octet, as a power of two: 2, 8 or 16
 abbrev pub IsBase : ℕ → ℕ → Type 0
@@ -36,6 +37,11 @@ abbrev pub MeansBinary : List ℕ → BinaryNumber → Type 0
 MeansBinary [] x = ⊥
 MeansBinary (first ∷ rest) x = IsBinary first rest x
 
+-- 8.5.6, 8.5.8: bits 8 and 7 are 0, and bits 6 to 1 are the form
+abbrev pub MeansDecimal : List ℕ → DecimalNumber → Type 0
+MeansDecimal [] x = ⊥
+MeansDecimal (first ∷ rest) x = IsDecimal first rest x
+
 -- 8.5.2, 8.5.9: what contents octets mean in BER
 abbrev pub Means : List ℕ → Real → Type 0
 Means w Zero = w ≡ []
@@ -44,6 +50,7 @@ Means w MinusInfinity = w ≡ 0x41 ∷ []
 Means w NotANumber = w ≡ 0x42 ∷ []
 Means w MinusZero = w ≡ 0x43 ∷ []
 Means w (Binary x) = MeansBinary w x
+Means w (Decimal x) = MeansDecimal w x
 
 -- the contents octets in CER and DER
 abbrev pub real_octets : Real → List ℕ
@@ -53,8 +60,9 @@ real_octets MinusInfinity = 0x41 ∷ []
 real_octets NotANumber = 0x42 ∷ []
 real_octets MinusZero = 0x43 ∷ []
 real_octets (Binary x) = binary_octets x
+real_octets (Decimal x) = decimal_octets x
 
--- 11.3.1: in CER and DER base 2, the scaling factor 0, an odd mantissa, and both numbers in the fewest octets
+-- 11.3.1: in CER and DER base 2, the scaling factor 0, an odd mantissa, and both numbers in the fewest octets; 11.3.2: or base 10 in one form
 abbrev pub IsReal : Bool → List ℕ → Real → Type 0
 IsReal false w x = Means w x
 IsReal true w x = Means w x × (w ≡ real_octets x)
@@ -62,4 +70,5 @@ IsReal true w x = Means w x × (w ≡ real_octets x)
 -- a value that a `Real` holds
 abbrev pub IsHeld : Real → Type 0
 IsHeld (Binary x) = IsBinaryNumber x
+IsHeld (Decimal x) = IsDecimalNumber x
 IsHeld _ = Unit {0}

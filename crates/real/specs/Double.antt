@@ -1,8 +1,8 @@
 -- The values of 64-bit floating point numbers (IEEE 754, binary64), by their bits.
 use Rattle.std.specs.Prelude.{◌≡◌, ℕ, ◌+◌, ◌-◌, ◌*◌, ◌/◌, ◌%◌, ◌^◌, ◌<◌, ◌==◌, if◌then◌else◌, pos, ◌+ℤ◌}
-use Rattle.real.specs.Number.{BinaryNumber, IsBinaryNumber}
+use Rattle.real.specs.Number.{BinaryNumber, IsBinaryNumber, IsSame}
 use Rattle.real.specs.declared.value.Real.{Real}
-use Rattle.real.specs.declared.value.Real.TheVariants.{Zero, MinusZero, Infinity, MinusInfinity, NotANumber, Binary}
+use Rattle.real.specs.declared.value.Real.TheVariants.{Zero, MinusZero, Infinity, MinusInfinity, NotANumber, Binary, Decimal}
 
 -- the eleven bits of the exponent
 abbrev pub biased : ℕ → ℕ
@@ -21,7 +21,7 @@ pub record IsDouble (bits : ℕ) (x : BinaryNumber) : Type 0 where
   pub exponent_is : x.exponent +ℤ pos 1074 ≡ pos (biased bits - 1 + power)
   pub held : IsBinaryNumber x
 
--- what 64 bits mean
+-- what 64 bits mean; a decimal number if its binary number is theirs
 abbrev pub MeansDouble : ℕ → Real → Type 0
 MeansDouble bits Zero = bits ≡ 0
 MeansDouble bits MinusZero = bits ≡ 9223372036854775808
@@ -29,3 +29,4 @@ MeansDouble bits Infinity = bits ≡ 9218868437227405312
 MeansDouble bits MinusInfinity = bits ≡ 18442240474082181120
 MeansDouble bits NotANumber = (biased bits ≡ 2047) × (0 < bits % 4503599627370496)
 MeansDouble bits (Binary x) = IsDouble bits x
+MeansDouble bits (Decimal x) = (y : BinaryNumber) × IsSame x y × IsDouble bits y

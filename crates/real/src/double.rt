@@ -1,9 +1,11 @@
 //! 64-bit floating point numbers (IEEE 754, binary64).
 ghost use Rattle.std.specs.Prelude.{◌≡◌, ◌≢◌, ℕ, ◌+◌, ◌-◌, ◌*◌};
 ghost use Rattle.std.specs.Prelude.{◌/◌, ◌^◌, ◌<◌, ◌≤◌, ◌==◌, MatchOption};
+ghost use Rattle.real.specs.Number.{BinaryNumber, IsSame};
 ghost use Rattle.real.specs.Double.{biased, significand as significand_of, MeansDouble, IsDouble};
 
 use crate::binary::Binary;
+use crate::decimal::Decimal;
 use crate::reading::odd_part;
 use crate::value::Real;
 
@@ -99,6 +101,18 @@ fn double(number: &Binary) -> Option<u64>
     Some(bits_of(number.is_negative(), significand, place))
 }
 
+/// Returns the bits of a decimal number, if there are any.
+fn decimal_double(number: &Decimal) -> Option<u64>
+    ensures { MatchOption result
+        ((bits : ℕ) (y : BinaryNumber) → IsSame number.now y → IsDouble bits y → ⊥)
+        (λ bits. (y : BinaryNumber) × IsSame number.now y × IsDouble bits y) }
+{
+    let Some(binary) = number.to_binary() else {
+        return None;
+    };
+    double(&binary)
+}
+
 impl Real {
     /// Returns the bits of the 64-bit floating point number that this value is (IEEE 754), or
     /// `None` if it isn't one.
@@ -115,6 +129,7 @@ impl Real {
             Real::MinusInfinity => Some(0xFFF0_0000_0000_0000),
             Real::NotANumber => Some(0x7FF8_0000_0000_0000),
             Real::Binary(number) => double(number),
+            Real::Decimal(number) => decimal_double(number),
         }
     }
 

@@ -3,10 +3,10 @@ ghost use Rattle.std.specs.Prelude.{◌≡◌, ◌+◌, ◌<◌, ◌≤◌, List
 
 use std::marker::Model;
 
-/// At most 14 octets, the contents octets of a REAL.
+/// At most 35 octets, the contents octets of a REAL.
 #[derive(Debug, Drop)]
 pub struct Octets {
-    octets: [u8; 14],
+    octets: [u8; 35],
     len: usize,
 }
 
@@ -17,7 +17,7 @@ impl Model for Octets {
 
     ghost view = { λ a. take a.len a.octets };
 
-    ghost invariant = { λ a. a.len ≤ 14 };
+    ghost invariant = { λ a. a.len ≤ 35 };
 }
 
 impl Octets {
@@ -26,14 +26,14 @@ impl Octets {
         ensures { result ≡ [] }
     {
         Octets {
-            octets: [0; 14],
+            octets: [0; 35],
             len: 0,
         }
     }
 
     /// Appends an octet.
     pub(crate) fn push(&mut self, octet: u8)
-        requires { length self.old < 14 }
+        requires { length self.old < 35 }
         ensures { self.new ≡ self.old ++ octet ∷ [] }
     {
         self.octets[self.len] = octet;

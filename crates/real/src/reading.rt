@@ -12,6 +12,7 @@ ghost use Rattle.real.specs.Octets.{unsigned, unsigned_from, signed, cut, is_sma
 ghost use Rattle.real.specs.Contents.{IsBase, IsBinary, IsReal, Means, real_octets};
 
 use crate::binary::Binary;
+use crate::text::decimal;
 use crate::value::Real;
 use crate::writing::write;
 
@@ -204,7 +205,10 @@ fn meaning(octets: &[u8]) -> Option<Real>
             Some(number) => Some(Real::Binary(number)),
             None => None,
         },
-        _ => None,
+        [first, rest @ ..] => match decimal(*first, rest) {
+            Some(number) => Some(Real::Decimal(number)),
+            None => None,
+        },
     }
 }
 

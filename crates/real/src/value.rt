@@ -1,5 +1,6 @@
 //! Values of REAL.
 use crate::binary::Binary;
+use crate::decimal::Decimal;
 
 /// A value of REAL (X.680, 21).
 #[derive(Clone, Copy, Debug, PartialEq, Eq)]
@@ -16,4 +17,6 @@ pub enum Real {
     NotANumber,
     /// A binary number (X.690, 8.5.7).
     Binary(Binary),
+    /// A decimal number (X.690, 8.5.8).
+    Decimal(Decimal),
 }

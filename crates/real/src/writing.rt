@@ -3,16 +3,18 @@ ghost use Rattle.std.specs.Prelude.{◌≡◌, ◌+◌, ◌^◌, ◌<◌, ◌≤
 ghost use Rattle.std.specs.Int.{complement_if};
 ghost use Rattle.real.specs.Number.{BinaryNumber, IsBinaryNumber};
 ghost use Rattle.real.specs.Octets.{big_endian, complement, octet, exponent_len, binary_octets};
+ghost use Rattle.real.specs.Decimal.{digits, scale_octets, decimal_octets};
 ghost use Rattle.real.specs.Contents.{real_octets};
 
 use crate::binary::Binary;
+use crate::decimal::Decimal;
 use crate::octets::Octets;
 use crate::value::Real;
 
 /// Appends the octets of a number, the most significant first, of which so many count.
 fn put_big_endian(octets: &mut Octets, count: u8, number: u64)
     requires fits { number < 256 ^ count }
-    requires room { length octets.old + count ≤ 14 }
+    requires room { length octets.old + count ≤ 35 }
     ensures appended { octets.new ≡ octets.old ++ big_endian count number }
     ensures few { length octets.new ≤ length octets.old + count }
 {
@@ -33,7 +35,7 @@ fn octet(negative: bool, number: u32) -> u8
 
 /// Appends octets of a number, or of -1 minus it.
 fn put_complement(octets: &mut Octets, negative: bool, count: u8, number: u32)
-    requires room { length octets.old + count ≤ 14 }
+    requires room { length octets.old + count ≤ 35 }
     ensures appended { octets.new ≡ octets.old ++ complement negative count number }
     ensures few { length octets.new ≤ length octets.old + count }
 {
@@ -91,6 +93,53 @@ fn put_binary(number: &Binary) -> Octets
     octets
 }
 
+/// Appends the digits of a number, which are at most so many.
+fn put_digits(octets: &mut Octets, count: u8, number: u64)
+    requires fits { number < 10 ^ count }
+    requires room { length octets.old + count ≤ 35 }
+    ensures appended { octets.new ≡ octets.old ++ digits number }
+    ensures few { length octets.new ≤ length octets.old + count }
+{
+    if number == 0 {
+        return;
+    }
+    put_digits(octets, count - 1, number / 10);
+    octets.push(b'0' + (number % 10) as u8);
+}
+
+/// Appends an exponent of ten.
+fn put_scale(octets: &mut Octets, exponent: i32)
+    requires room { length octets.old + 11 ≤ 35 }
+    ensures appended { octets.new ≡ octets.old ++ scale_octets exponent }
+{
+    if exponent == 0 {
+        octets.push(b'+');
+        octets.push(b'0');
+    } else if exponent < 0 {
+        octets.push(b'-');
+        put_digits(octets, 10, (-i64::from(exponent)) as u64);
+    } else {
+        put_digits(octets, 10, exponent as u64);
+    }
+}
+
+/// Returns the octets of a decimal number.
+#[tactic(auto, unfolding(crate::specs::Decimal::decimal_octets))]
+fn put_decimal(number: &Decimal) -> Octets
+    ensures { result ≡ decimal_octets number.now }
+{
+    let mut octets = Octets::new();
+    octets.push(3);
+    if number.is_negative() {
+        octets.push(b'-');
+    }
+    put_digits(&mut octets, 20, number.mantissa());
+    octets.push(b'.');
+    octets.push(b'E');
+    put_scale(&mut octets, number.exponent());
+    octets
+}
+
 /// Returns one octet.
 fn one(octet: u8) -> Octets
     ensures { result ≡ octet ∷ [] }
@@ -115,5 +164,6 @@ pub fn write(value: &Real) -> Octets
         Real::NotANumber => one(0x42),
         Real::MinusZero => one(0x43),
         Real::Binary(number) => put_binary(number),
+        Real::Decimal(number) => put_decimal(number),
     }
 }
