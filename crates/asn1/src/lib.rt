@@ -68,7 +68,7 @@ pub use object_identifier::ObjectIdentifier;
 pub use parts::{DecodeParts, Parts, SequenceTag};
 pub use parts_written::{EncodeParts, UseParts};
 pub use path::Path;
-pub use real::{Binary, Real};
+pub use real::{Binary, Decimal, Real};
 pub use relative_oid::RelativeOid;
 pub use sequence::Sequence;
 pub use set::Set;

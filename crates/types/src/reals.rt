@@ -6,7 +6,7 @@ use bcder::Mode;
 use bcder::Mode::{Ber, Cer, Der};
 
 /// REALs.
-const REALS: [Read<'static>; 25] = [
+const REALS: [Read<'static>; 35] = [
     (Der, b"\x09\x00", "Zero"),
     (Ber, b"\x09\x00", "Zero"),
     (Der, b"\x09\x01\x40", "Infinity"),
@@ -50,6 +50,38 @@ const REALS: [Read<'static>; 25] = [
     ),
     (Der, b"\x09\x04\x81\x00\x00\x03", "refused"),
     (Der, b"\x09\x04\x80\x00\x00\x03", "refused"),
+    // 1.5 is 15 times ten to the power of -1 (11.3.2).
+    (
+        Der,
+        b"\x09\x07\x0315.E-1",
+        "Decimal(Decimal { negative: false, mantissa: 15, exponent: -1 })",
+    ),
+    (
+        Cer,
+        b"\x09\x07\x03-7.E+0",
+        "Decimal(Decimal { negative: true, mantissa: 7, exponent: 0 })",
+    ),
+    // In the forms NR1, NR2 and NR3 of ISO 6093 (8.5.8).
+    (
+        Ber,
+        b"\x09\x05\x01 070",
+        "Decimal(Decimal { negative: false, mantissa: 7, exponent: 1 })",
+    ),
+    (
+        Ber,
+        b"\x09\x05\x02-1,5",
+        "Decimal(Decimal { negative: true, mantissa: 15, exponent: -1 })",
+    ),
+    (
+        Ber,
+        b"\x09\x08\x03+1.5e+3",
+        "Decimal(Decimal { negative: false, mantissa: 15, exponent: 2 })",
+    ),
+    (Der, b"\x09\x05\x01 070", "refused"),
+    (Der, b"\x09\x05\x02-1,5", "refused"),
+    (Cer, b"\x09\x08\x0315.0E-1", "refused"),
+    (Der, b"\x09\x05\x037.E0", "refused"),
+    (Ber, b"\x09\x02\x010", "refused"),
     // Base 64 is reserved (8.5.7.2), a mantissa of 0 is no form of zero, and one is needed.
     (Ber, b"\x09\x03\xB0\x00\x01", "refused"),
     (Ber, b"\x09\x03\x80\x00\x00", "refused"),
@@ -61,7 +93,7 @@ const REALS: [Read<'static>; 25] = [
 ];
 
 /// REALs, written in each mode.
-const REALS_AGAIN: [Again<'static>; 7] = [
+const REALS_AGAIN: [Again<'static>; 10] = [
     (Ber, b"\x09\x03\x94\xFF\x0D", Der, b"\x09\x03\x80\xFE\x0D"),
     (Ber, b"\x09\x03\x80\x00\x02", Cer, b"\x09\x03\x80\x01\x01"),
     (
@@ -71,6 +103,9 @@ const REALS_AGAIN: [Again<'static>; 7] = [
         b"\x09\x03\x80\x00\x03",
     ),
     (Der, b"\x09\x03\xC0\xFB\x05", Ber, b"\x09\x03\xC0\xFB\x05"),
+    (Ber, b"\x09\x05\x02-1,5", Der, b"\x09\x08\x03-15.E-1"),
+    (Ber, b"\x09\x05\x01 070", Cer, b"\x09\x05\x037.E1"),
+    (Der, b"\x09\x07\x0315.E-1", Ber, b"\x09\x07\x0315.E-1"),
     (Der, b"\x09\x00", Der, b"\x09\x00"),
     (Cer, b"\x09\x01\x42", Der, b"\x09\x01\x42"),
     (

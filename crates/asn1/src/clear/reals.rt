@@ -15,6 +15,10 @@ impl Clear for Real {
                 let _held = number.exponent();
                 true
             }
+            Real::Decimal(number) => {
+                let _held = number.exponent();
+                true
+            }
             Real::Zero | Real::MinusZero => true,
             Real::Infinity | Real::MinusInfinity | Real::NotANumber => true,
         }
