@@ -63,6 +63,7 @@ impl<V: Values> Encoder for Option<V> {
         }
     }
 
+    #[inline(always)]
     fn put<Pass, W: io::Write>(
         &self,
         mode: Mode,
@@ -106,6 +107,7 @@ impl<L: Values, R: Values> Encoder for Choice2<L, R> {
         }
     }
 
+    #[inline(always)]
     fn put<Pass, W: io::Write>(
         &self,
         mode: Mode,
@@ -157,6 +159,7 @@ impl<L: Values, C: Values, R: Values> Encoder for Choice3<L, C, R> {
         }
     }
 
+    #[inline(always)]
     fn put<Pass, W: io::Write>(
         &self,
         mode: Mode,
