@@ -1,8 +1,9 @@
 //! Tests of the library with values from outside that aren't lines of data. Lines of data are in
-//! `vectors` and `values`.
+//! `vectors`.
 //!
-//! There is one module for each subject, and each also runs over the source of `support`. Tests of
-//! failures are in a crate of their own.
+//! There is one module for each subject, and each also runs over the source of `support`. Failures
+//! are tested one by one: sources whose requests fail (`failures`), targets that fail (`targets`),
+//! and errors that a closure drops (`dropped`).
 #![tactic(auto)]
 
 #[cfg(test)]
@@ -18,7 +19,11 @@ mod decodes;
 #[cfg(test)]
 mod deep;
 #[cfg(test)]
+mod dropped;
+#[cfg(test)]
 mod encodes;
+#[cfg(test)]
+mod failures;
 #[cfg(test)]
 mod identifiers;
 #[cfg(test)]
@@ -41,5 +46,7 @@ mod steps;
 mod strings;
 #[cfg(test)]
 mod tag_names;
+#[cfg(test)]
+mod targets;
 #[cfg(test)]
 mod wholes;

@@ -1,6 +1,6 @@
 //! Compares expected answers from outside with those of the library, and two of its readers with
-//! each other. The calls are those that take, skip, keep and cut values. The program `values`
-//! compares what single values mean.
+//! each other. The calls are those that take, skip, keep and cut values. What single values mean is
+//! compared in `values`.
 //!
 //! The head of each file of `data/` says what its columns mean and where its answers come from.
 //! `walk.tsv` and most of `octet_strings.tsv` have answers of the Rust crate bcder 0.7.7. The
@@ -20,6 +20,7 @@ mod positions;
 mod skips;
 mod strings;
 mod takes;
+mod values;
 mod walks;
 
 use anyhow::Error;
@@ -158,5 +159,6 @@ fn main(rt: HostRuntime) -> Result<(), Error> {
     replay_partial(&rt)?;
     replay_positions(&rt)?;
     replay_strings(&rt)?;
-    cut_values(&rt)
+    cut_values(&rt)?;
+    values::replay_values(&rt)
 }

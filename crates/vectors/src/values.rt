@@ -1,17 +1,11 @@
-//! Compares expected answers from outside with those of the library, on what single values mean:
-//! integers, object identifiers, bit strings and tags.
+//! Compares what single values mean: integers, object identifiers, bit strings and tags.
 //!
-//! The head of each file of `data/` says what its columns mean and where its answers come from. The
-//! files that end in `_values.tsv` have answers of the Rust crate bcder 0.7.7. `integers.tsv` and
-//! `components.tsv` have numbers that another language wrote. The others are written by the rules
-//! of X.690.
+//! The files that end in `_values.tsv` have answers of the Rust crate bcder 0.7.7. `integers.tsv`
+//! and `components.tsv` have numbers that another language wrote. The others are written by the
+//! rules of X.690.
 //!
 //! Then the readers of integers are compared with conversions of std on all contents of one and two
 //! octets.
-//!
-//! The output counts the answers of each kind that were compared, so that a line that is left out
-//! is noticed.
-#![tactic(auto, using(bcder::specs::laws::Moved::untouched_is_moved))]
 
 mod bits;
 mod identifiers;
@@ -135,9 +129,10 @@ fn replay_bits(rt: &HostRuntime) -> Result<(), Error> {
     print(rt, "bit strings taken", tally)
 }
 
-fn main(rt: HostRuntime) -> Result<(), Error> {
-    replay_tags(&rt)?;
-    replay_integers(&rt)?;
-    replay_identifiers(&rt)?;
-    replay_bits(&rt)
+/// Replays the files on single values, and prints what was compared.
+pub fn replay_values(rt: &HostRuntime) -> Result<(), Error> {
+    replay_tags(rt)?;
+    replay_integers(rt)?;
+    replay_identifiers(rt)?;
+    replay_bits(rt)
 }

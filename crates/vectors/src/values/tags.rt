@@ -1,5 +1,5 @@
 //! Compares identifier octets (X.690, 8.1.2), read over several sources, and how tags are shown.
-use crate::written::compare_tag;
+use crate::values::written::compare_tag;
 use anyhow::Error;
 use bcder::Tag;
 use bcder::decode::{BytesSource, DecodeError, SliceSource, Source};

@@ -1,6 +1,6 @@
 //! Compares integers: the numbers that contents octets are, in each type, and values that are read.
-use crate::numbers::{self, Numbers, Readers, count, found};
-use crate::written;
+use crate::values::numbers::{self, Numbers, Readers, count, found};
+use crate::values::written;
 use anyhow::Error;
 use bcder::decode::{BytesSource, DecodeError, Primitive, SliceSource, Source};
 use bcder::int::{IntegerError, InvalidInteger};
