@@ -46,6 +46,11 @@ odd_one m n (suc j) (suc k) p q e =
     let h = odd_one m n j k p q (omega arith) in
     (h.0, ap suc h.1)
 
+-- zero is no product of an odd number and a power of two
+pub no_odd : (n m p : ℕ) → n ≡ 0 → n ≡ m * 2 ^ p → m % 2 ≡ 1 → ⊥
+no_odd n m zero z e o = omega arith
+no_odd n m (suc p) z e o = let d = doubling m p in no_odd n m p z (omega arith) o
+
 pub base_one : (b k l : ℕ) → IsBase b k → IsBase b l → k ≡ l
 base_one b k l (inl h) (inl i) = omega arith
 base_one b k l (inl h) (inr (inl i)) = omega arith

@@ -15,6 +15,14 @@ pub record IsBinaryNumber (x : BinaryNumber) : Type 0 where
   pub mantissa : x.mantissa < 2 ^ 64
   pub exponent : FitsSigned w32 x.exponent
 
+-- mantissa times two to the power of exponent, or its negative, in the one form that a `Binary` holds
+pub record IsBinaryOf (negative : Bool) (mantissa : ℕ) (exponent : ℤ) (x : BinaryNumber) : Type 0 where
+  pub sign : x.negative ≡ negative
+  pub power : ℕ
+  pub mantissa_is : mantissa ≡ x.mantissa * 2 ^ power
+  pub exponent_is : x.exponent ≡ exponent +ℤ pos power
+  pub held : IsBinaryNumber x
+
 -- mantissa times ten to the power of exponent, or its negative
 pub record DecimalNumber : Type 0 where
   pub negative : Bool

@@ -1,7 +1,9 @@
 //! Binary numbers.
 ghost use Rattle.std.specs.Prelude.{◌≡◌, ◌%◌, MatchOption};
-ghost use Rattle.real.specs.Number.{BinaryNumber, IsBinaryNumber};
+ghost use Rattle.real.specs.Number.{BinaryNumber, IsBinaryNumber, IsBinaryOf};
 
+use crate::reading::odd_part;
+use crate::text::shifted;
 use std::marker::Model;
 
 /// A number other than zero: a sign, an odd mantissa and an exponent of two (X.690, 8.5.7).
@@ -40,28 +42,29 @@ impl Model for Binary {
 
 impl Binary {
     /// Returns the number `mantissa` times two to the power of `exponent`, or its negative, or
-    /// `None` if the mantissa is even.
+    /// `None` if the mantissa is zero or the exponent doesn't fit once the factors of two are
+    /// taken out of the mantissa.
     ///
     /// ```text
-    /// Binary::new(false, 5, -5)    0.15625
+    /// Binary::new(false, 10, -6)    0.15625, with the mantissa 5 and the exponent -5
     /// ```
     pub fn new(negative: bool, mantissa: u64, exponent: i32) -> Option<Binary>
-        ensures { let x : BinaryNumber = record {
-          negative = negative;
-          mantissa = mantissa;
-          exponent = exponent;
-        }
-            in MatchOption result (IsBinaryNumber x → ⊥) (λ r. (r ≡ x) × IsBinaryNumber x) }
+        ensures { MatchOption result
+            ((x : BinaryNumber) → IsBinaryOf negative mantissa exponent x → ⊥)
+            (λ x. IsBinaryOf negative mantissa exponent x) }
     {
-        if mantissa % 2 == 1 {
-            Some(Binary {
-                negative,
-                mantissa,
-                exponent,
-            })
-        } else {
-            None
+        if mantissa == 0 {
+            return None;
         }
+        let (mantissa, power) = odd_part(mantissa, 64);
+        let Some(exponent) = shifted(i64::from(exponent), u64::from(power), 0) else {
+            return None;
+        };
+        Some(Binary {
+            negative,
+            mantissa,
+            exponent,
+        })
     }
 
     /// Returns the number with these parts.

@@ -20,6 +20,21 @@ fn numbers_of_base_2_are_read(rt: HostRuntime) {
 }
 
 #[test]
+fn factors_of_two_are_taken_out(rt: HostRuntime) {
+    assert_eq!(rt; binary(false, 12, -2), read(&[0x80, 0x00, 0x03], true));
+    assert_eq!(rt;
+        binary(true, 0x8000_0000_0000_0000, -2_147_483_648),
+        read(&[0xC3, 0x04, 0x80, 0x00, 0x00, 0x3F, 0x01], true)
+    );
+    assert_eq!(rt;
+        binary(false, 2, 2_147_483_646),
+        read(&[0x83, 0x04, 0x7F, 0xFF, 0xFF, 0xFF, 0x01], true)
+    );
+    assert_eq!(rt; binary(false, 2, 2_147_483_647), None);
+    assert_eq!(rt; binary(false, 0, 0), None);
+}
+
+#[test]
 fn longer_forms_are_read_in_ber_alone(rt: HostRuntime) {
     assert_eq!(rt; read(&[0x94, 0xFF, 0x0D], false), binary(false, 13, -2));
     assert_eq!(rt; read(&[0xA0, 0x01, 0x01], false), binary(false, 1, 4));
