@@ -1,5 +1,5 @@
 //! Object identifiers: those in the fewest octets, and those that a user keeps and copies. How they
-//! are read, shown and compared is in `values`.
+//! are read, shown and compared is in `vectors`.
 use crate::asserts::{done, holds, same, shows};
 use bcder::{ConstOid, Mode, Oid};
 use std::alloc::Global;

@@ -1,5 +1,5 @@
 //! Tests of integers: worked values. What octets are as integers of any kind, and as booleans, is
-//! compared in `values`.
+//! compared in `vectors`.
 #![tactic(auto, using(bcder::specs::laws::Moved::steps))]
 
 ghost use Rattle.bcder.specs.calls.Views.{MovedOctets};

@@ -3,7 +3,7 @@
 //!
 //! There is one module for each subject, and each also runs over the source of `support`. Failures
 //! are tested one by one: sources whose requests fail (`failures`), targets that fail (`targets`),
-//! and errors that a closure drops (`dropped`).
+//! and errors that a closure drops (`dropped`). What users write is tested in `readers`.
 #![tactic(auto)]
 
 #[cfg(test)]
@@ -34,6 +34,8 @@ mod loops;
 mod octets;
 #[cfg(test)]
 mod over;
+#[cfg(test)]
+mod readers;
 #[cfg(test)]
 mod reading;
 #[cfg(test)]

@@ -1,7 +1,7 @@
 //! Tests of the validity of a certificate that openssl made. The expected times are those that
 //! openssl shows.
 
-use crate::structures::CERTIFICATE;
+use super::structures::CERTIFICATE;
 use std::test::Fail;
 use user::validity::{Kind, Validity};
 
