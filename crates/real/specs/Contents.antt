@@ -62,7 +62,8 @@ real_octets MinusZero = 0x43 ∷ []
 real_octets (Binary x) = binary_octets x
 real_octets (Decimal x) = decimal_octets x
 
--- 11.3.1: in CER and DER base 2, the scaling factor 0, an odd mantissa, and both numbers in the fewest octets; 11.3.2: or base 10 in one form
+-- 11.3.1: in CER and DER base 2, the scaling factor 0, an odd mantissa, and both numbers in the fewest octets;
+-- 11.3.2: or base 10 in one form
 abbrev pub IsReal : Bool → List ℕ → Real → Type 0
 IsReal false w x = Means w x
 IsReal true w x = Means w x × (w ≡ real_octets x)

@@ -23,8 +23,6 @@ mod float;
 pub mod laws;
 mod octets;
 mod reading;
-#[cfg(test)]
-mod tests;
 mod text;
 mod value;
 mod writing;
