@@ -6,10 +6,10 @@ use crate::page::Page;
 use crate::shown::Capitals;
 use crate::structure::{Structure, show_as};
 use asn1::Any;
-use pkix::{
-    Certificate, CertificateList, ContentInfo, EncryptedContentInfo, EncryptedData, SignedData,
-    SignerIdentifier, SignerInfo,
+use cms::{
+    ContentInfo, EncryptedContentInfo, EncryptedData, SignedData, SignerIdentifier, SignerInfo,
 };
+use pkix::{Certificate, CertificateList};
 use std::alloc::AllocError;
 
 /// Shows who signed.

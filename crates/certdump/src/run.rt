@@ -19,8 +19,9 @@ use cli::shown::ShownOctets;
 use cli::spelled::spelled_in;
 use cli::status::Status;
 use cli::tell::{Place, put, tell_no_memory, tell_unwritten};
+use cms::ContentInfo;
 use pkix::{
-    Certificate, CertificateList, CertificationRequest, ContentInfo, EcParameters, EcPrivateKey,
+    Certificate, CertificateList, CertificationRequest, EcParameters, EcPrivateKey,
     EncryptedPrivateKeyInfo, PrivateKeyInfo, RsaPrivateKey, RsaPublicKey, SubjectPublicKeyInfo,
 };
 use std::alloc::{AllocError, Global};

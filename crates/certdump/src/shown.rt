@@ -20,22 +20,35 @@ impl fmt::Display for Indent {
     }
 }
 
+/// Writes octets in hexadecimal, with colons between them.
+fn write_octets<W: fmt::Write>(
+    octets: &[u8],
+    capitals: bool,
+    f: &mut fmt::Formatter<W>,
+) -> fmt::Result {
+    let mut is_first = true;
+    for octet in octets {
+        let code = *octet;
+        if !is_first {
+            write!(f, ":")?;
+        }
+        is_first = false;
+        if capitals {
+            write!(f, "{code:02X}")?;
+        } else {
+            write!(f, "{code:02x}")?;
+        }
+    }
+    Ok(())
+}
+
 /// Octets in hexadecimal, with colons.
 #[derive(Clone, Copy)]
 pub(crate) struct Colons<'a>(pub(crate) &'a [u8]);
 
 impl fmt::Display for Colons<'_> {
     fn fmt<W: fmt::Write>(&self, f: &mut fmt::Formatter<W>) -> fmt::Result {
-        let mut is_first = true;
-        for octet in self.0 {
-            let code = *octet;
-            if !is_first {
-                write!(f, ":")?;
-            }
-            is_first = false;
-            write!(f, "{code:02x}")?;
-        }
-        Ok(())
+        write_octets(self.0, false, f)
     }
 }
 
@@ -45,16 +58,7 @@ pub(crate) struct Capitals<'a>(pub(crate) &'a [u8]);
 
 impl fmt::Display for Capitals<'_> {
     fn fmt<W: fmt::Write>(&self, f: &mut fmt::Formatter<W>) -> fmt::Result {
-        let mut is_first = true;
-        for octet in self.0 {
-            let code = *octet;
-            if !is_first {
-                write!(f, ":")?;
-            }
-            is_first = false;
-            write!(f, "{code:02X}")?;
-        }
-        Ok(())
+        write_octets(self.0, true, f)
     }
 }
 

@@ -4,14 +4,14 @@ use anyhow::Error;
 use asn1::{Decode, Encode};
 use bcder::Mode;
 use bcder::decode::BytesSource;
+use cms::{ContentInfo, EncryptedData, SignedData};
 use lines::fields::{next, octets_of};
 use lines::tally::{Differing, Tally, differ_in};
 use pkix::{
-    CertificatePolicies, ContentInfo, DssParms, EcPrivateKey, EcdsaSigValue, EncryptedData,
-    EncryptedPrivateKeyInfo, ExtKeyUsage, MacData, Pfx, PolicyConstraints, PolicyMappings,
-    PrivateKeyInfo, RouteOriginAttestation, RsaPrivateKey, RsaPublicKey, SafeBag, SignedData,
-    SingleRequest, TimeStampReq,
+    CertificatePolicies, DssParms, EcPrivateKey, EcdsaSigValue, EncryptedPrivateKeyInfo,
+    ExtKeyUsage, PolicyConstraints, PolicyMappings, PrivateKeyInfo, RsaPrivateKey, RsaPublicKey,
 };
+use protocols::{MacData, Pfx, RouteOriginAttestation, SafeBag, SingleRequest, TimeStampReq};
 use std::alloc::Global;
 
 /// What was compared.

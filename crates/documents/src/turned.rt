@@ -37,7 +37,7 @@ const TURNS: [Turn; 9] = [
 ];
 
 /// Returns the octets with a change of the one at an index.
-fn turned(alloc: Global, octets: &[u8], index: usize, turn: Turn) -> Result<Vec<u8>, Error> {
+fn with_turn(alloc: Global, octets: &[u8], index: usize, turn: Turn) -> Result<Vec<u8>, Error> {
     let mut all = octets.to_vec(alloc)?;
     if index < all.len() {
         match turn {
@@ -82,7 +82,7 @@ pub fn compare<T: Decode<BytesSource> + Encode>(
     for turn in TURNS {
         let mut index = 0usize;
         for answer in next(&mut columns)?.chars() {
-            let changed = turned(alloc, changes.octets.as_slice(), index, turn)?;
+            let changed = with_turn(alloc, changes.octets.as_slice(), index, turn)?;
             if let Some(value) = compare_read::<T>(alloc, &changed, answer != '-', tallies)? {
                 let same = is_written(alloc, Mode::Der, &value, &changed);
                 tallies.written.count(same);

@@ -26,6 +26,10 @@ pub struct BasicConstraints {
 impl Definition for BasicConstraints {
     type As = Sequence<(OrDefault<bool, NoCa>, Option<u32>)>;
 
+    const NAME: &'static str = "BasicConstraints";
+
+    const PARTS: &'static [&'static str] = &["ca", "path_len"];
+
     ghost parts = { λ x. (x.ca, x.path_len) };
 
     fn from_parts(value: Sequence<(OrDefault<bool, NoCa>, Option<u32>)>) -> BasicConstraints {

@@ -1,13 +1,13 @@
 //! Time stamps (RFC 3161).
 ghost use Rattle.std.specs.Prelude.{false, refl};
 
-use crate::{AlgorithmIdentifier, Extensions};
 use asn1::{
     ByRef, Context, Decode, DecodeParts, DefaultValue, Encode, EncodeParts, Implicit,
     ObjectIdentifier, OrDefault, Parts, Sequence, SequenceTag, Trace, Type, UseParts,
 };
 use bcder::decode::{Constructed, DecodeError, Source};
 use bcder::{Integer, Mode, NoMemory, OctetString, Tag};
+use pkix::{AlgorithmIdentifier, Extensions};
 use std::alloc::Global;
 
 /// The digest of what gets a time stamp (RFC 3161, section 2.4.1).

@@ -1,7 +1,6 @@
 //! Files of keys and certificates (RFC 7292).
 ghost use Rattle.std.specs.Prelude.{refl};
 
-use crate::{Attribute, ContentInfo, DigestInfo};
 use asn1::{
     Any, ByRef, Context, Decode, DecodeParts, DefaultValue, Encode, EncodeParts, Explicit,
     ObjectIdentifier, OrDefault, Parts, Sequence, SequenceOf, SequenceTag, SetOf, Trace, Type,
@@ -9,6 +8,8 @@ use asn1::{
 };
 use bcder::decode::{Constructed, DecodeError, Source};
 use bcder::{Mode, NoMemory, OctetString, Tag};
+use cms::ContentInfo;
+use pkix::{Attribute, DigestInfo};
 use std::alloc::Global;
 
 /// A file of keys and certificates (RFC 7292, section 4).

@@ -1,13 +1,13 @@
 //! Objects of routing: which networks may be announced (RFC 9582, RFC 9286).
 ghost use Rattle.std.specs.Prelude.{refl};
 
-use crate::{Version, Version1};
 use asn1::{
     ByRef, Context, Decode, DecodeParts, Encode, EncodeParts, Explicit, OrDefault, Parts, Sequence,
     SequenceOf, SequenceTag, Trace, Type, UseParts,
 };
 use bcder::decode::{Constructed, DecodeError, Source};
 use bcder::{BitString, Mode, OctetString, Tag};
+use pkix::{Version, Version1};
 use std::alloc::Global;
 
 /// Which network may announce which addresses (RFC 9582, section 4).

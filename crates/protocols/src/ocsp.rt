@@ -1,13 +1,13 @@
 //! Questions whether certificates are revoked (RFC 6960).
 ghost use Rattle.std.specs.Prelude.{refl};
 
-use crate::{AlgorithmIdentifier, Extensions};
 use asn1::{
     ByRef, Context, Decode, DecodeParts, Encode, EncodeParts, Explicit, Parts, Sequence,
     SequenceTag, Trace, Type, UseParts,
 };
 use bcder::decode::{Constructed, DecodeError, Source};
 use bcder::{Integer, Mode, OctetString, Tag};
+use pkix::{AlgorithmIdentifier, Extensions};
 use std::alloc::Global;
 
 /// One certificate that is asked for (RFC 6960, section 4.1.1).

@@ -2,16 +2,14 @@
 ghost use Rattle.std.specs.Prelude.{refl};
 ghost use Rattle.asn1.specs.declared.choice.Choice2.TheVariants.{One, Two};
 
-use crate::{
-    AlgorithmIdentifier, Attribute, EncapsulatedContentInfo, KeyIdentifier, Name,
-    SubjectKeyIdentifier,
-};
+use crate::EncapsulatedContentInfo;
 use asn1::{
     Any, ByRef, Choice2, Context, Decode, DecodeParts, Encode, EncodeParts, Implicit, Parts,
     Sequence, SequenceTag, SetOf, Trace, Type, UseParts,
 };
 use bcder::decode::{Constructed, DecodeError, Source};
 use bcder::{Integer, Mode, OctetString, Tag};
+use pkix::{AlgorithmIdentifier, Attribute, KeyIdentifier, Name, SubjectKeyIdentifier};
 use std::alloc::Global;
 
 /// Content, and who signed it (RFC 5652, section 5.1).
@@ -34,8 +32,8 @@ use std::alloc::Global;
 ///
 ///     RevocationInfoChoices ::= SET OF RevocationInfoChoice
 ///
-/// Certificates and lists are kept as they are. They decode as [`Certificate`](crate::Certificate)
-/// and [`CertificateList`](crate::CertificateList), or are of other kinds.
+/// Certificates and lists are kept as they are. They decode as [`Certificate`](pkix::Certificate)
+/// and [`CertificateList`](pkix::CertificateList), or are of other kinds.
 #[derive(Debug, Drop)]
 pub struct SignedData {
     /// The version.
@@ -332,8 +330,8 @@ pub enum SignerIdentifier {
     SubjectKeyIdentifier(Implicit<Context<0>, KeyIdentifier>),
 }
 
-ghost use Rattle.pkix.specs.declared.signed_data.SignerIdentifier.TheVariants.{IssuerAndSerialNumber};
-ghost use Rattle.pkix.specs.declared.signed_data.SignerIdentifier.TheVariants.{SubjectKeyIdentifier};
+ghost use Rattle.cms.specs.declared.signed_data.SignerIdentifier.TheVariants.{IssuerAndSerialNumber};
+ghost use Rattle.cms.specs.declared.signed_data.SignerIdentifier.TheVariants.{SubjectKeyIdentifier};
 
 /// What defines [`SignerIdentifier`].
 type SignerIdentifierParts = Choice2<IssuerAndSerialNumber, Implicit<Context<0>, KeyIdentifier>>;

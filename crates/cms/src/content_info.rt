@@ -1,13 +1,13 @@
 //! Messages: content with its type (RFC 5652).
 ghost use Rattle.std.specs.Prelude.{refl};
 
-use crate::{AlgorithmIdentifier, Attribute};
 use asn1::{
     Any, ByRef, Context, Decode, DecodeParts, Encode, EncodeParts, Explicit, Implicit,
     ObjectIdentifier, Parts, Sequence, SequenceTag, SetOf, Trace, Type, UseParts,
 };
 use bcder::decode::{Constructed, DecodeError, Source};
 use bcder::{Mode, OctetString, Tag};
+use pkix::{AlgorithmIdentifier, Attribute};
 use std::alloc::Global;
 
 /// Content with its type (RFC 5652, section 3).
