@@ -502,7 +502,8 @@ impl<
     ghost keys = { λ x.
         ⟦<((A, B, C, D), (E, F, G, H, I, J, K, L)) as Fields>⟧.keys (grouped_12 x) };
 
-    ghost takes = { SeenAs grouped_12 ⟦<((A, B, C, D), (E, F, G, H, I, J, K, L)) as Fields>⟧.takes };
+    ghost takes = { SeenAs grouped_12
+        ⟦<((A, B, C, D), (E, F, G, H, I, J, K, L)) as Fields>⟧.takes };
 
     ghost keep_all = { ⟦<((A, B, C, D), (E, F, G, H, I, J, K, L)) as Fields>⟧.keep_all };
 

@@ -49,7 +49,8 @@ module _ {C T E : Type 0} (why : E → Cause ContentError) (view : C → Reading
         (behind_header any c (why e) n.1 f.after f.front)
   ]
 
-  pub refuses_walk : {U : Type 0} (c d : Reading) (r : Result U E) → Within c → IfErr r (λ e. Refuses why any (NothingThere any) (RefusesFront why view post any c e d) c e d)
+  pub refuses_walk : {U : Type 0} (c d : Reading) (r : Result U E) → Within c
+      → IfErr r (λ e. Refuses why any (NothingThere any) (RefusesFront why view post any c e d) c e d)
       → IfErr r (λ e. Refuses why any HasNoNext ⊥ c e d)
   refuses_walk c d (Ok x) w h = tt
   refuses_walk c d (Err e) w h = walk_refused c d e w h

@@ -327,7 +327,8 @@ impl<
 
     ghost distinct = { ⟦<((A, B, C, D), (E, F, G, H, I, J, K, L)) as ClearFields>⟧.distinct };
 
-    ghost always_clear = { ⟦<((A, B, C, D), (E, F, G, H, I, J, K, L)) as ClearFields>⟧.always_clear };
+    ghost always_clear = { λ mode.
+        ⟦<((A, B, C, D), (E, F, G, H, I, J, K, L)) as ClearFields>⟧.always_clear mode };
 
     fn are_clear_in(&self, mode: Mode) -> bool {
         let (a, b, c, d, e, f, g, h, i, j, k, l) = self;

@@ -78,8 +78,9 @@ pub data RefusesSkip {F X : Type 0} (why : X → Cause ContentError) (step : Ste
   by_content : (calls : List Heading) → Called step f calls g → WereCalls c calls d → Refuses why any HasNoNext ⊥ c e d
       → RefusesSkip why step c f e g d
   -- the closure refused a heading
-  by_closure : (calls : List Heading) (h : Heading) (q : F) (x : ContentError) → Called step f calls q → step q h.tag h.constructed h.depth (Err x) g
-      → WereCalls c (calls ++ h ∷ []) d → why e ≡ of_content x → RefusesSkip why step c f e g d
+  by_closure : (calls : List Heading) (h : Heading) (q : F) (x : ContentError) → Called step f calls q
+      → step q h.tag h.constructed h.depth (Err x) g → WereCalls c (calls ++ h ∷ []) d → why e ≡ of_content x
+      → RefusesSkip why step c f e g d
   -- memory ran out for a constructed value at a depth of four or more
   by_memory : (calls : List Heading) (h : Heading) → Called step f (calls ++ h ∷ []) g → WereCalls c (calls ++ h ∷ []) d
       → h.constructed ≡ true → 4 ≤ h.depth → why e ≡ of_memory → RefusesSkip why step c f e g d

@@ -236,8 +236,8 @@ module _ {F X : Type 0} (step : Steps F ContentError) where
         → read_contents (read_list mode) h.tag h.form h.len (cut o s.rest) ≡ None → IsOfContent (interrupt_cause e)
         → Breaks mode h s o f e g t p
     by_closure : (calls before : List Heading) (last : Heading) (q : F) (x : ContentError) → heading h 0 ∷ calls ≡ before ++ last ∷ []
-        → Called step f before q → step q last.tag last.constructed last.depth (Err x) g → IsBroken mode h s o calls t p → e ≡ interrupt.Closure x
-        → Breaks mode h s o f e g t p
+        → Called step f before q → step q last.tag last.constructed last.depth (Err x) g → IsBroken mode h s o calls t p
+        → e ≡ interrupt.Closure x → Breaks mode h s o f e g t p
     by_memory : (calls before : List Heading) (last : Heading) → heading h 0 ∷ calls ≡ before ++ last ∷ []
         → Called step f (heading h 0 ∷ calls) g → last.constructed ≡ true → 4 ≤ last.depth → IsBroken mode h s o calls t p
         → interrupt_cause e ≡ of_memory → Breaks mode h s o f e g t p

@@ -20,7 +20,7 @@ fn writes<V: Values>(values: &V, mode: Mode, target: &mut Vec<u8>, wanted: &[u8]
 }
 
 /// Writes values that keep octets, by reference.
-fn kept(things: &Things, target: &mut Vec<u8>) -> bool {
+fn kept_values(things: &Things, target: &mut Vec<u8>) -> bool {
     let values = (
         (&things.integer).encode(),
         (&things.unsigned).encode(),
@@ -93,7 +93,7 @@ fn headers(target: &mut Vec<u8>) -> bool {
 /// Returns what these calls return.
 pub fn ends(alloc: Global, things: &Things, target: &mut Vec<u8>) -> [(&'static str, bool); 6] {
     [
-        ("encoders of what is kept", kept(things, target)),
+        ("encoders of what is kept", kept_values(things, target)),
         ("encoders of strings", strings(things, target)),
         ("WrappingOctetStringEncoder", wrapped(alloc, target)),
         ("encoders of slices", slices(target)),

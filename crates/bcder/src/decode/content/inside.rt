@@ -158,7 +158,8 @@ impl<'a, S: Source> Constructed<'a, S> {
         ensures marked { self.new.marked ≡ self.old.marked }
         ensures no_fault { MeetsNoFault (before S.stream self) (after S.stream self) result }
         ensures done { OnOk result (IsDone (after S.stream self)) }
-        ensures end { OnOk result (EndsBefore (before S.stream self) (after S.stream self).stream.rest) }
+        ensures end { OnOk result
+            (EndsBefore (before S.stream self) (after S.stream self).stream.rest) }
         ensures refused { IfErr result (λ e.
             RefusesEnd stop_cause (before S.stream self) e (after S.stream self)) }
     {

@@ -119,8 +119,9 @@ fn segment_at(mode: Mode, octets: &[u8]) -> Option<(Option<usize>, &[u8])>
     }
 }
 
-/// Returns whether a primitive segment of `len` octets may come first, or behind one that was full
-/// or not. In CER each has 1000 octets but the last, which has 1 to 1000 (9.2).
+/// Returns whether a primitive segment of `len` octets may come here. In CER each segment has 1000
+/// octets but the last, which has 1 to 1000 (9.2). `full` says whether the segment before has 1000
+/// octets; it is true if none comes before.
 #[inline(always)]
 fn may_come(mode: Mode, full: bool, len: usize) -> bool
     ensures { IsTrue result ↔ (mode ≡ Mode.Cer → (full ≡ true) × (1 ≤ len) × (len ≤ 1000)) }
