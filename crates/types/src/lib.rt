@@ -35,6 +35,8 @@ mod leaf;
 #[cfg(test)]
 mod lent;
 #[cfg(test)]
+mod lent_parts;
+#[cfg(test)]
 mod lists;
 #[cfg(test)]
 mod members;
