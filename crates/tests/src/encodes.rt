@@ -1,5 +1,5 @@
 //! Tests of what encoders write: octets from worked examples, sizes, and refusals. Those of one
-//! integer, of a header and of a tag are lines of data, in `values`.
+//! integer, of a header and of a tag are lines of data, in `vectors`.
 use crate::asserts::{Case, done, holds, same};
 use bcder::encode::{
     Choice2, Choice3, EncodeError, Nothing, Primitive, PrimitiveContent, Values, WriteError, iter,
