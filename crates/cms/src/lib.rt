@@ -6,7 +6,22 @@
 #![tactic(auto, using(bcder::specs::laws::Moved::untouched_is_moved))]
 
 mod content_info;
+mod enveloped_data;
+mod key_agreement;
+mod recipient_info;
+mod recipient_key;
+mod shared_key;
 mod signed_data;
 
 pub use content_info::{ContentInfo, EncapsulatedContentInfo, EncryptedContentInfo, EncryptedData};
+pub use enveloped_data::{EnvelopedData, OriginatorInfo};
+pub use key_agreement::{
+    KeyAgreeRecipientInfo, OriginatorIdentifierOrKey, OriginatorPublicKey, RecipientEncryptedKey,
+};
+pub use recipient_info::{
+    KeyTransRecipientInfo, OtherRecipientInfo, PasswordRecipientInfo, RecipientIdentifier,
+    RecipientInfo,
+};
+pub use recipient_key::{KeyAgreeRecipientIdentifier, RecipientKeyIdentifier};
+pub use shared_key::{KekIdentifier, KekRecipientInfo, OtherKeyAttribute};
 pub use signed_data::{IssuerAndSerialNumber, SignedData, SignerIdentifier, SignerInfo};

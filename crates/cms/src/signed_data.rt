@@ -330,8 +330,7 @@ pub enum SignerIdentifier {
     SubjectKeyIdentifier(Implicit<Context<0>, KeyIdentifier>),
 }
 
-ghost use Rattle.cms.specs.declared.signed_data.SignerIdentifier.TheVariants.{IssuerAndSerialNumber};
-ghost use Rattle.cms.specs.declared.signed_data.SignerIdentifier.TheVariants.{SubjectKeyIdentifier};
+ghost use Rattle.cms.specs.declared.signed_data.SignerIdentifier.TheVariants as signer;
 
 /// What defines [`SignerIdentifier`].
 type SignerIdentifierParts = Choice2<IssuerAndSerialNumber, Implicit<Context<0>, KeyIdentifier>>;
@@ -345,7 +344,10 @@ impl Parts for SignerIdentifier {
 
     const PARTS: &'static [&'static str] = &["issuer_and_serial_number", "subject_key_identifier"];
 
-    ghost parts = { elim [ IssuerAndSerialNumber x ↦ One x | SubjectKeyIdentifier x ↦ Two x ] };
+    ghost parts = { elim [
+      | signer.IssuerAndSerialNumber x ↦ One x
+      | signer.SubjectKeyIdentifier x ↦ Two x
+    ] };
 
     ghost typed = { ⟦<SignerIdentifierParts as Type>⟧ };
 
@@ -387,8 +389,8 @@ impl EncodeParts for SignerIdentifier {
     }
 
     ghost made = { elim [
-      | One x ↦ (IssuerAndSerialNumber x, refl)
-      | Two x ↦ (SubjectKeyIdentifier x, refl)
+      | One x ↦ (signer.IssuerAndSerialNumber x, refl)
+      | Two x ↦ (signer.SubjectKeyIdentifier x, refl)
     ] };
 }
 
