@@ -4,14 +4,17 @@ use anyhow::Error;
 use asn1::{Decode, Encode};
 use bcder::Mode;
 use bcder::decode::BytesSource;
-use cms::{ContentInfo, EncryptedData, SignedData};
+use cms::{ContentInfo, EncryptedData, EnvelopedData, SignedData};
 use lines::fields::{next, octets_of};
 use lines::tally::{Differing, Tally, differ_in};
 use pkix::{
     CertificatePolicies, DssParms, EcPrivateKey, EcdsaSigValue, EncryptedPrivateKeyInfo,
     ExtKeyUsage, PolicyConstraints, PolicyMappings, PrivateKeyInfo, RsaPrivateKey, RsaPublicKey,
 };
-use protocols::{MacData, Pfx, RouteOriginAttestation, SafeBag, SingleRequest, TimeStampReq};
+use protocols::{
+    BasicOcspResponse, MacData, OcspResponse, Pfx, RouteOriginAttestation, SafeBag, SingleRequest,
+    TimeStampReq,
+};
 use std::alloc::Global;
 
 /// What was compared.
@@ -87,6 +90,9 @@ pub fn compare_line(alloc: Global, line: &str, tallies: &mut Tallies) -> Result<
         "PolicyConstraints" => compare::<PolicyConstraints>(alloc, octets, is_one, tallies),
         "PolicyMappings" => compare::<PolicyMappings>(alloc, octets, is_one, tallies),
         "ExtKeyUsageSyntax" => compare::<ExtKeyUsage>(alloc, octets, is_one, tallies),
+        "EnvelopedData" => compare::<EnvelopedData>(alloc, octets, is_one, tallies),
+        "OCSPResponse" => compare::<OcspResponse>(alloc, octets, is_one, tallies),
+        "BasicOCSPResponse" => compare::<BasicOcspResponse>(alloc, octets, is_one, tallies),
         _ => {
             tallies.read.count(false);
             Ok(())
