@@ -5,6 +5,8 @@ pub mod Members
 pub mod Reading
 pub mod Enclosed
 pub mod Pairs
+pub mod Threes
+pub mod Fours
 pub mod Contents
 pub mod Ones
 pub mod ReadingBack

@@ -79,10 +79,17 @@ impl<S: Source, F: DecodeFields<S>> Decode<S> for Sequence<F> {
         tag: Tag,
         path: &mut P,
     ) -> Result<Option<Sequence<F>>, DecodeError<S::Error>> {
-        match take_inside(alloc, cons, tag, path) {
-            Ok(Some(fields)) => Ok(Some(Sequence(fields))),
-            Ok(None) => Ok(None),
-            Err(error) => Err(error),
-        }
+        cons.take_opt_constructed_if(
+            tag,
+            |cons|
+                ensures moves { Moved S.stream cons }
+                ensures took { TookFields S.stream cons F.takes F.may_lack result }
+            {
+                match F::trace_fields(alloc, cons, path) {
+                    Ok(fields) => Ok(Sequence(fields)),
+                    Err(error) => Err(error),
+                }
+            },
+        )
     }
 }

@@ -5,7 +5,7 @@ ghost use Rattle.asn1.specs.Tuples.{SeenAs, first_of_3, first_of_4, grouped_5, g
 ghost use Rattle.asn1.specs.Tuples.{grouped_7, grouped_8, grouped_9, grouped_10, grouped_11};
 ghost use Rattle.asn1.specs.Tuples.{grouped_12};
 
-use crate::{DecodeFields, Fields, Trace};
+use crate::{DecodeFields, Fields, Part, Trace};
 use bcder::decode::{Constructed, DecodeError, Source};
 use std::alloc::Global;
 
@@ -40,12 +40,24 @@ impl<S: Source, A: DecodeFields<S>, B: DecodeFields<S>, C: DecodeFields<S>> Deco
         cons: &mut Constructed<'_, S>,
         path: &mut P,
     ) -> Result<(A, B, C), DecodeError<S::Error>> {
-        match <(A, (B, C))>::trace_fields(alloc, cons, path) {
-            Ok(fields) => {
-                let (a, (b, c)) = fields;
-                Ok((a, b, c))
+        let a = match A::trace_fields(alloc, cons, path) {
+            Ok(a) => a,
+            Err(error) => return Err(error),
+        };
+        let b = match B::trace_fields(alloc, cons, path) {
+            Ok(b) => b,
+            Err(error) => {
+                path.note(Part::Behind(A::count()));
+                return Err(error);
             }
-            Err(error) => Err(error),
+        };
+        match C::trace_fields(alloc, cons, path) {
+            Ok(c) => Ok((a, b, c)),
+            Err(error) => {
+                path.note(Part::Behind(B::count()));
+                path.note(Part::Behind(A::count()));
+                Err(error)
+            }
         }
     }
 }
@@ -86,12 +98,33 @@ impl<
         cons: &mut Constructed<'_, S>,
         path: &mut P,
     ) -> Result<(A, B, C, D), DecodeError<S::Error>> {
-        match <(A, (B, C, D))>::trace_fields(alloc, cons, path) {
-            Ok(fields) => {
-                let (a, (b, c, d)) = fields;
-                Ok((a, b, c, d))
+        let a = match A::trace_fields(alloc, cons, path) {
+            Ok(a) => a,
+            Err(error) => return Err(error),
+        };
+        let b = match B::trace_fields(alloc, cons, path) {
+            Ok(b) => b,
+            Err(error) => {
+                path.note(Part::Behind(A::count()));
+                return Err(error);
             }
-            Err(error) => Err(error),
+        };
+        let c = match C::trace_fields(alloc, cons, path) {
+            Ok(c) => c,
+            Err(error) => {
+                path.note(Part::Behind(B::count()));
+                path.note(Part::Behind(A::count()));
+                return Err(error);
+            }
+        };
+        match D::trace_fields(alloc, cons, path) {
+            Ok(d) => Ok((a, b, c, d)),
+            Err(error) => {
+                path.note(Part::Behind(C::count()));
+                path.note(Part::Behind(B::count()));
+                path.note(Part::Behind(A::count()));
+                Err(error)
+            }
         }
     }
 }

@@ -266,6 +266,8 @@ impl EncodeParts for EncryptedContentInfo {
 ///         unprotectedAttrs       [1] IMPLICIT UnprotectedAttributes OPTIONAL }
 ///
 ///     UnprotectedAttributes ::= SET SIZE (1..MAX) OF Attribute
+///
+/// Any version of 0 to 255 is read, and an empty set is too.
 #[derive(Debug, Drop)]
 pub struct EncryptedData {
     /// The version.

@@ -23,6 +23,8 @@ use std::alloc::Global;
 ///     RecipientInfos ::= SET SIZE (1..MAX) OF RecipientInfo
 ///
 ///     UnprotectedAttributes ::= SET SIZE (1..MAX) OF Attribute
+///
+/// Any version of 0 to 255 is read, and empty sets are too.
 #[derive(Debug, Drop)]
 pub struct EnvelopedData {
     /// The version.

@@ -24,6 +24,8 @@ use std::alloc::Global;
 ///     UserKeyingMaterial ::= OCTET STRING
 ///
 ///     RecipientEncryptedKeys ::= SEQUENCE OF RecipientEncryptedKey
+///
+/// Any version of 0 to 255 is read.
 #[derive(Debug, Drop)]
 pub struct KeyAgreeRecipientInfo {
     /// The version, which is 3.

@@ -137,6 +137,8 @@ impl EncodeParts for RecipientInfo {
 ///         encryptedKey            EncryptedKey }
 ///
 ///     EncryptedKey ::= OCTET STRING
+///
+/// Any version of 0 to 255 is read.
 #[derive(Debug, Drop)]
 pub struct KeyTransRecipientInfo {
     /// 0 with the issuer and serial number of a certificate, 2 with a key identifier.
@@ -248,6 +250,8 @@ pub type RecipientIdentifier = SignerIdentifier;
 ///         keyDerivationAlgorithm  [0] KeyDerivationAlgorithmIdentifier OPTIONAL,
 ///         keyEncryptionAlgorithm  KeyEncryptionAlgorithmIdentifier,
 ///         encryptedKey            EncryptedKey }
+///
+/// Any version of 0 to 255 is read.
 #[derive(Debug, Drop)]
 pub struct PasswordRecipientInfo {
     /// The version, which is 0.

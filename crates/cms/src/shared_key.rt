@@ -17,6 +17,8 @@ use std::alloc::Global;
 ///         kekid                   KEKIdentifier,
 ///         keyEncryptionAlgorithm  KeyEncryptionAlgorithmIdentifier,
 ///         encryptedKey            EncryptedKey }
+///
+/// Any version of 0 to 255 is read.
 #[derive(Debug, Drop)]
 pub struct KekRecipientInfo {
     /// The version, which is 4.
