@@ -18,6 +18,7 @@ mod compared;
 mod document;
 mod fields;
 mod list;
+mod named;
 mod request;
 mod shown;
 mod structures;

@@ -1,4 +1,5 @@
 //! Compares structures whose fields aren't shown: whether each is read, and written as it was.
+use crate::named::compare_named;
 use crate::values::{is_written, read};
 use anyhow::Error;
 use asn1::{Decode, Encode};
@@ -37,7 +38,7 @@ impl Differing for Tallies {
 }
 
 /// Reads octets as a value of a type, which they are or not, and writes and cuts it if they are.
-fn compare<T: Decode<BytesSource> + Encode>(
+pub fn compare<T: Decode<BytesSource> + Encode>(
     alloc: Global,
     octets: &[u8],
     is_one: bool,
@@ -93,9 +94,6 @@ pub fn compare_line(alloc: Global, line: &str, tallies: &mut Tallies) -> Result<
         "EnvelopedData" => compare::<EnvelopedData>(alloc, octets, is_one, tallies),
         "OCSPResponse" => compare::<OcspResponse>(alloc, octets, is_one, tallies),
         "BasicOCSPResponse" => compare::<BasicOcspResponse>(alloc, octets, is_one, tallies),
-        _ => {
-            tallies.read.count(false);
-            Ok(())
-        }
+        _ => compare_named(alloc, kind, octets, is_one, tallies),
     }
 }
