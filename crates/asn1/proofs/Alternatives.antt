@@ -8,9 +8,11 @@ use Rattle.bcder.specs.x690.Tree.{Tree}
 use Rattle.bcder.specs.x690.Encoding.{IsHeader, IsEncoding}
 use Rattle.bcder.specs.declared.decode.content.State.TheVariants.{Ended, Failed}
 use Rattle.bcder.specs.calls.CapturingValues.{BeginsDeep, LeadDeep}
-use Rattle.bcder.specs.calls.Content.{Reading, Octets, Moves, Falls, Asked, any, tagged, HasHeader, HasOther}
+use Rattle.bcder.specs.declared.decode.content.Kind.TheVariants as kind
+use Rattle.bcder.specs.calls.Begins.{BeginsOther}
+use Rattle.bcder.specs.calls.Content.{Reading, Octets, Moves, Falls, Asked, any, tagged, HasHeader, values}
 use Rattle.bcder.specs.calls.Content.{HasMarker, IsAbsent, IsElsewhere, none_left, other, marker}
-use Rattle.bcder.specs.calls.Content.{EndsBefore, IsDone, IsUsedUp, IndefiniteValues, of_octets, of_definite, of_indefinite, of_unbounded}
+use Rattle.bcder.specs.calls.Content.{EndsBefore, IsDone, IsUsedUp, of_octets, of_definite, of_indefinite, of_unbounded}
 use Rattle.bcder.specs.calls.Takes.{HasNone}
 use Rattle.bcder.specs.calls.Walking.{HasValue}
 use Rattle.bcder.specs.calls.Valued.{tag_of}
@@ -47,7 +49,7 @@ module _ (c d : Reading) (a : Alike c d) where
 
   elsewhere_there : (t : Tag) (rest : List ℕ) → IsElsewhere t c rest → IsElsewhere t d rest
   elsewhere_there t rest (none_left r e) = none_left (a.rest ∙ r) e
-  elsewhere_there t rest (other h e) = other (subst (HasOther t) (sym a.rest) h) (e ∙ sym a.rest)
+  elsewhere_there t rest (other h e) = other (subst (BeginsOther t) (sym a.rest) h) (e ∙ sym a.rest)
   elsewhere_there t rest (marker e k m) =
       marker e (a.kind ∙ k) (subst (λ z. HasMarker z d.stream.rest rest) (sym a.mode) (subst (λ z. HasMarker c.mode z rest) (sym a.rest) m))
 
@@ -79,7 +81,7 @@ module _ (c d : Reading) (a : Alike c d) where
 deep_there : (c d : Reading) → Alike c d → BeginsDeep c → BeginsDeep d
 deep_there c d a h = record {
   usable = a.state ∙ h.usable;
-  some = record { none = λ after e. h.some.none after (ends_there d c (alike_back c d a) after e) };
+  some = λ after e. h.some after (ends_there d c (alike_back c d a) after e);
   leads = subst (λ z. LeadDeep z d.stream.rest) (sym a.mode) (subst (LeadDeep c.mode) (sym a.rest) h.leads);
 }
 
@@ -190,7 +192,7 @@ module _ {A B : Type 0} (P : Tag → Type 0) (M : Mode → Tree → A → Type 0
 
       two_may : MayHave Q d → MayHave (EitherTag P Q) c
       two_may (by_tags f) = by_tags (λ rest g. f rest (λ t p. absent_there c d same t rest (g t (inr p))))
-      two_may (by_end f h) = by_end (λ t g. inr (f t g)) (record { none = λ after g. h.none after (ends_there c d same after g) })
+      two_may (by_end f h) = by_end (λ t g. inr (f t g)) (λ after g. h after (ends_there c d same after g))
 
       two_allocates : AllocatesFor Q d → AllocatesFor (EitherTag P Q) c
       two_allocates (of_header h) =
@@ -231,7 +233,7 @@ module _ {A B : Type 0} (P : Tag → Type 0) (M : Mode → Tree → A → Type 0
       past_end u rest (inr (g, of_unbounded q f)) h = inr (g, of_unbounded q f)
       past_end u rest (inr (g, of_indefinite q f)) h = inr (g, of_indefinite q (subst (HasMarker c.mode c.stream.rest) (sym (h (was_ended q z.missing.1))) f))
         where
-          was_ended : c.kind ≡ IndefiniteValues → IsDone d → d.state ≡ Ended
+          was_ended : c.kind ≡ values kind.Indefinite → IsDone d → d.state ≡ Ended
           was_ended q (inl y) = y
           was_ended q (inr y) = absurd (subst (λ r. IsUsedUp r d.owed d.stream.rest) (m.kind ∙ q) y.1)
 
@@ -266,11 +268,11 @@ module _ {A B : Type 0} (P : Tag → Type 0) (M : Mode → Tree → A → Type 0
           no_header (inr r) =
               let a = absent_at_end d x form d.stream.rest r.1 in
               header_is_there h.tag d h.after a.0 r.0 h.header (inr (r.0, a.1 h.tag (i.value_tags h.tag h.is_one)))
-      fails_at_end i q f y (types.RefusesTyped.memory g u (of_depth r h)) = absurd (h.some.none d.stream.rest ends)
+      fails_at_end i q f y (types.RefusesTyped.memory g u (of_depth r h)) = absurd (h.some d.stream.rest ends)
       fails_at_end i q f y (types.RefusesTyped.broken h r) = absurd (not_there h.absent ends)
         where
           not_there : MayHave Q d → EndsBefore d d.stream.rest → ⊥
-          not_there (by_end f e) g = e.none d.stream.rest g
+          not_there (by_end f e) g = e d.stream.rest g
           not_there (by_tags f) (inl g) = open_has_not_ended d.state h.usable g
           not_there (by_tags f) (inr g) =
               (let a = absent_at_end d x form d.stream.rest g.1 in f a.0 (λ t p. inr (g.0, a.1 t (i.value_tags t p))))

@@ -11,15 +11,15 @@ use Rattle.bcder.specs.declared.decode.error.DecodeError.{DecodeError}
 use Rattle.bcder.specs.x690.Identifier.{Tag}
 use Rattle.bcder.specs.x690.Tree.{Tree, primitive, constructed}
 use Rattle.bcder.specs.calls.Cause.{cause_of, of_memory, IsRefusal}
-use Rattle.bcder.specs.calls.Content.{Reading, Octets, Moves, Carries, IsUsedUp, tagged}
-use Rattle.bcder.specs.calls.Readers.{HasAll, Reads, MeanNothing, RefusesReading}
+use Rattle.bcder.specs.calls.Content.{Reading, Octets, Moves, IsUsedUp, tagged}
+use Rattle.bcder.specs.calls.Readers.{Reads, MeanNothing, RefusesReading}
 use Rattle.bcder.specs.calls.Readers as readers
 use Rattle.bcder.specs.calls.Stream.{Stream, IsSound}
 use Rattle.bcder.specs.calls.Takes.{TakesNext}
 use Rattle.bcder.specs.calls.Valued.{HoldsNone, ReadsAny, ReadsContent, RefusesToRead}
 use Rattle.bcder.specs.calls.Valued as valued
 use Rattle.bcder.specs.calls.Views.{of_constructed, of_content, of_primitive}
-use Rattle.bcder.specs.laws.Moved.{untouched_is_moved}
+use Rattle.bcder.specs.laws.Moved.{untouched_is_moved, Carries}
 use Rattle.bcder.proofs.Lemmas.{constructed_is_within_owed, constructed_is_not_octets, all_held, too_few, octets_form, next_tree}
 use Rattle.asn1.specs.Types.{IsLeaf, Only, TakesNextTyped}
 use Rattle.asn1.proofs.Typed.{next_typed}

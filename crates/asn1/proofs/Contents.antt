@@ -4,9 +4,11 @@ use Rattle.std.specs.Prelude.{◌⊎◌, Result, Ok, Err}
 use Rattle.bcder.specs.declared.decode.error.DecodeError.{DecodeError}
 use Rattle.bcder.specs.x690.Identifier.{Tag}
 use Rattle.bcder.specs.x690.Tree.{Tree, primitive, constructed}
+use Rattle.bcder.specs.calls.Valued.{HasNoTree, TakesTree}
+use Rattle.bcder.specs.calls.Takes.{NextBy}
 use Rattle.bcder.specs.calls.Cause.{cause_of, of_memory}
-use Rattle.bcder.specs.calls.Content.{Reading}
-use Rattle.bcder.specs.calls.Typed.{HasBroken, TakesAs, RefusesAs, TakesNextAs}
+use Rattle.bcder.specs.calls.Content.{tagged, Reading}
+use Rattle.bcder.specs.calls.Typed.{InPrimitive, RefusesAs}
 use Rattle.bcder.specs.calls.Refusals as refusals
 use Rattle.bcder.specs.calls.Readers.{MeanNothing}
 use Rattle.bcder.specs.calls.Walking.{HasValue}
@@ -24,11 +26,11 @@ NothingOrLacking lacks Means v e = MeanNothing Means v e ⊎ (cause_of e ≡ of_
 
 module _ {T X : Type 0} (tag : Tag) (Means : List ℕ → T → Type 0) (lacks : Bool) (Refuses : List ℕ → DecodeError X → Type 0)
     (nothing : (v : List ℕ) (e : DecodeError X) → Refuses v e → NothingOrLacking lacks Means v e) (c d : Reading) (w : IsWithinOwed c) where
-  leaf_taken : (x : T) → TakesAs tag Means c x d → TakesTyped (Only tag) (IsLeaf Means) c x d
-  leaf_taken x h = record { tree = primitive tag h.contents; octets = h.octets; has = (h.has, refl); means = h.means; stays = h.stays }
+  leaf_taken : (x : T) → TakesTree tag (InPrimitive Means) c x d → TakesTyped (Only tag) (IsLeaf Means) c x d
+  leaf_taken x h = record { tree = h.tree; octets = h.octets; has = h.has; means = h.means; stays = h.stays }
 
-  broken_leaf : HasBroken tag c → (t : Tree) (v rest : List ℕ) (x : T) → HasTagged (Only tag) c t v rest → IsLeaf Means t x → ⊥
-  broken_leaf b (primitive t z) v rest x h k = b.value z v rest (subst (λ u. HasValue c (primitive u z) v rest) h.1 h.0)
+  broken_leaf : HasNoTree {T = Unit {0}} tag (InPrimitive (λ _ _. Unit {0})) c → (t : Tree) (v rest : List ℕ) (x : T) → HasTagged (Only tag) c t v rest → IsLeaf Means t x → ⊥
+  broken_leaf b (primitive t z) v rest x h k = b.value (primitive t z) v rest tt (h.0, h.1) tt
   broken_leaf b (constructed t ts) v rest x h k = k
 
   nothing_leaf : (z v rest : List ℕ) → HasValue c (primitive tag z) v rest → ((x : T) → Means z x → ⊥) → (t : Tree) (u behind : List ℕ) (x : T)
@@ -47,14 +49,14 @@ module _ {T X : Type 0} (tag : Tag) (Means : List ℕ → T → Type 0) (lacks :
   refused_contents z v rest e p (inr m) =
       (let h = header_of_tagged c w tag (primitive tag z) v rest (p, refl) in types.RefusesTyped.memory m.0 m.1 (typed_header tag c h.0 h.1))
 
-  leaf_refused : (e : DecodeError X) → RefusesAs tag Means Refuses c e d → RefusesTyped (Only tag) (IsLeaf Means) lacks c e d
+  leaf_refused : (e : DecodeError X) → RefusesAs tag Refuses c e d → RefusesTyped (Only tag) (IsLeaf Means) lacks c e d
   leaf_refused e (refusals.Refuses.failed s a) = types.RefusesTyped.failed s a
   leaf_refused e (refusals.Refuses.source s g) = types.RefusesTyped.source s g
   leaf_refused e (refusals.Refuses.nothing b a) =
       types.RefusesTyped.broken (record { usable = b.usable; value = broken_leaf b; absent = by_tags (λ rest f. b.absent rest (f tag refl)) }) a.refused
   leaf_refused e (refusals.Refuses.otherwise (z, v, rest, p, n)) = refused_contents z v rest e p (nothing z e n)
 
-  pub next_leaf : (r : Result (Option T) (DecodeError X)) → TakesNextAs tag Means Refuses c r d → TakesNextTyped (Only tag) (IsLeaf Means) lacks c r d
+  pub next_leaf : (r : Result (Option T) (DecodeError X)) → NextBy (tagged tag) (TakesTree tag (InPrimitive Means)) (RefusesAs tag Refuses) c r d → TakesNextTyped (Only tag) (IsLeaf Means) lacks c r d
   next_leaf (Ok (Some x)) n = record {
     value = leaf_taken x n.value;
     none = tt;

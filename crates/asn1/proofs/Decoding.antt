@@ -1,5 +1,5 @@
 -- All values of a source, where they are fields, or one value.
-use Rattle.std.proofs.Common.{◌≡◌, ◌≢◌, ℕ, Bool, List, [], ◌++◌, refl, sym, ◌∙◌, ap, append-nil, subst, inl, inr}
+use Rattle.std.proofs.Common.{◌≡◌, ◌≢◌, ℕ, None, Bool, List, [], ◌++◌, refl, sym, ◌∙◌, ap, append-nil, subst, inl, inr}
 use Rattle.std.specs.Prelude.{Result, Ok, Err, IfOk, IfErr}
 use Rattle.std.specs.Borrow.{MutBor}
 use Rattle.bcder.specs.declared.mode.Mode.{Mode}
@@ -11,12 +11,13 @@ use Rattle.bcder.specs.x690.Tree.{Tree, Trees, no_trees, ◌∷ₜ◌}
 use Rattle.bcder.specs.x690.Encoding.{IsEncoding, AreEncodings}
 use Rattle.bcder.specs.laws.Lists.{AreEncodings-one}
 use Rattle.bcder.specs.calls.Cause.{cause_of}
-use Rattle.bcder.specs.calls.Stream.{Stream}
-use Rattle.bcder.specs.calls.Content.{Reading, Octets, IndefiniteValues, UnboundedValues, Moves, of_unbounded}
+use Rattle.bcder.specs.calls.Stream.{Stream, limited}
+use Rattle.bcder.specs.declared.decode.content.Kind.TheVariants as kind
+use Rattle.bcder.specs.calls.Content.{Reading, Octets, Moves, of_unbounded, values}
 use Rattle.bcder.specs.calls.Calls.{Answered}
 use Rattle.bcder.specs.calls.Walking.{HasValues, ClosesBefore}
 use Rattle.bcder.specs.calls.Valued.{HoldsValues}
-use Rattle.bcder.specs.calls.Decoding.{IsAllOf, HandsAll, Decodes, RefusesDecode, RefusesOn}
+use Rattle.bcder.specs.calls.Decoding.{IsAllOf, Decodes, RefusesDecode, RefusesOn}
 use Rattle.bcder.specs.calls.Decoding as decoding
 use Rattle.bcder.specs.calls.DecodingAll.{DecodesWhole, RefusesWhole, RefusesRest}
 use Rattle.bcder.specs.calls.DecodingAll as all
@@ -27,10 +28,10 @@ use Rattle.asn1.specs.Decoded.{IsValueOf, RefusesAll, AreFields, RefusesFieldsOf
 use Rattle.asn1.specs.Decoded as decoded
 use Rattle.asn1.proofs.Reading.{none_held_at_end}
 
-unbounded_not_octets : UnboundedValues ≢ Octets
+unbounded_not_octets : values kind.Unbounded ≢ Octets
 unbounded_not_octets e = cc
 
-unbounded_not_indefinite : UnboundedValues ≢ IndefiniteValues
+unbounded_not_indefinite : values kind.Unbounded ≢ values kind.Indefinite
 unbounded_not_indefinite e = cc
 
 is_open : (s : State) → s ≢ Failed → s ≢ Ended → s ≡ Open
@@ -71,7 +72,7 @@ module _ {T : Type 0} (mode : Mode) (Takes : Trees → T → Trees → Type 0) (
     unfolding Moves
     left_open = is_open j.state f (λ e. elim (m.ends e) [ inl h ↦ open_has_not_ended i.state o.state h | inr h ↦ unbounded_not_indefinite (sym o.kind ∙ h) ])
 
-    left_unbounded : j.kind ≡ UnboundedValues
+    left_unbounded : j.kind ≡ values kind.Unbounded
     unfolding Moves
     left_unbounded = m.kind ∙ o.kind
 
@@ -121,37 +122,38 @@ module _ {C T X : Type 0} (view : C → Reading) (post : MutBor C → Result T (
 
   decoded_fields : (x : T) → DecodesWhole view post s mode x → AreFields mode (Takes mode) s.rest x
   decoded_fields x d =
-      let h = d.decodes.hands in
+      let h = d.decodes in
       let r = answered_fields d.decodes.handed d.decodes.left (Ok x) d.decodes.answered h.over.mode in
       fields_of mode (Takes mode) s d.decodes.handed h.over d.decodes.left h.moves d.decodes.usable x r.value
       (ap (λ (z : Stream). z.rest) h.leaves ∙ d.none_left)
 
   module _ (e : DecodeError X) where
-    fields_refused : (i j : Reading) (later : Stream) → HandsAll s mode i j later → RefusesFields (Takes mode) lacks i e j
+    fields_refused : (i j : Reading) (later : Stream) → IsAllOf s mode i → j.stream ≡ limited None later → RefusesFields (Takes mode) lacks i e j
         → RefusesFieldsOf mode (Takes mode) lacks s e
-    fields_refused i j later h (types.RefusesFields.source c g) =
+    fields_refused i j later over leaves (types.RefusesFields.source c g) =
         decoded.RefusesFieldsOf.source later c
-        (grew_in_between _ _ _ _ (as_many_are_no_fewer _ _ (ap (λ (z : Stream). z.faults) h.over.stream)) g (ap (λ (z : Stream). z.faults) h.leaves))
-    fields_refused i j later h (types.RefusesFields.memory c l) = decoded.RefusesFieldsOf.memory c l
-    fields_refused i j later h (types.RefusesFields.broken n a) = decoded.RefusesFieldsOf.broken (no_fields mode (Takes mode) s i h.over n) a
+        (grew_in_between _ _ _ _ (as_many_are_no_fewer _ _ (ap (λ (z : Stream). z.faults) over.stream)) g (ap (λ (z : Stream). z.faults) leaves))
+    fields_refused i j later over leaves (types.RefusesFields.memory c l) = decoded.RefusesFieldsOf.memory c l
+    fields_refused i j later over leaves (types.RefusesFields.broken n a) = decoded.RefusesFieldsOf.broken (no_fields mode (Takes mode) s i over n) a
 
-    closure_refused : (i j : Reading) (later : Stream) → HandsAll s mode i j later → RefusesOn cause_of view post i e j
+    closure_refused : (i j : Reading) (later : Stream) → IsAllOf s mode i → j.stream ≡ limited None later → RefusesOn cause_of view post i e j
         → RefusesFieldsOf mode (Takes mode) lacks s e
-    closure_refused i j later h (decoding.RefusesOn.by_closure a) = fields_refused i j later h (answered_fields i j (Err e) a h.over.mode).refused
-    closure_refused i j later h (decoding.RefusesOn.left_failed x a f c) =
-        decoded.RefusesFieldsOf.broken (failed_not_all mode (Takes mode) s i h.over j f x (answered_fields i j (Ok x) a h.over.mode).value) c
+    closure_refused i j later over leaves (decoding.RefusesOn.by_closure a) =
+        fields_refused i j later over leaves (answered_fields i j (Err e) a over.mode).refused
+    closure_refused i j later over leaves (decoding.RefusesOn.left_failed x a f c) =
+        decoded.RefusesFieldsOf.broken (failed_not_all mode (Takes mode) s i over j f x (answered_fields i j (Ok x) a over.mode).value) c
 
     decoding_refused : RefusesWhole view post s mode e → RefusesFieldsOf mode (Takes mode) lacks s e
-    decoding_refused (all.RefusesWhole.by_decoding later d) = closure_refused d.handed d.left later d.hands d.refuses
+    decoding_refused (all.RefusesWhole.by_decoding later d) = closure_refused d.handed d.left later d.over d.leaves d.refuses
     decoding_refused (all.RefusesWhole.by_rest x left later d (all.RefusesRest.octets_left n a p f)) =
-        let r = answered_fields d.handed d.left (Ok x) d.answered d.hands.over.mode in
-        let same = sym (ap (λ (z : Stream). z.rest) d.hands.leaves) in
+        let r = answered_fields d.handed d.left (Ok x) d.answered d.over.mode in
+        let same = sym (ap (λ (z : Stream). z.rest) d.leaves) in
         decoded.RefusesFieldsOf.broken
-        (not_all mode (Takes mode) s d.handed d.hands.over d.left d.hands.moves d.usable x r.value (λ z. n (same ∙ z))) a
+        (not_all mode (Takes mode) s d.handed d.over d.left d.moves d.usable x r.value (λ z. n (same ∙ z))) a
     decoding_refused (all.RefusesWhole.by_rest x left later d (all.RefusesRest.source_failed c g)) =
-        let r = answered_fields d.handed d.left (Ok x) d.answered d.hands.over.mode in
+        let r = answered_fields d.handed d.left (Ok x) d.answered d.over.mode in
         let faults = λ (z : Stream). z.faults in
-        let same = sym (ap faults d.hands.leaves) ∙ r.no_fault ∙ ap faults d.hands.over.stream in
+        let same = sym (ap faults d.leaves) ∙ r.no_fault ∙ ap faults d.over.stream in
         decoded.RefusesFieldsOf.source later c (grew_in_between _ _ _ _ (as_many_are_no_fewer _ _ same) g refl)
 
   pub decoded_all : (r : Result T (DecodeError X)) → IfOk r (λ x. DecodesWhole view post s mode x) → IfOk r (λ x. AreFields mode (Takes mode) s.rest x)

@@ -7,7 +7,7 @@ use Rattle.bcder.specs.declared.encode.error.WriteError.{WriteError}
 use Rattle.bcder.specs.x690.Identifier.{Tag}
 use Rattle.bcder.specs.x690.Tree.{Tree, Trees, ◌+++◌}
 use Rattle.bcder.specs.calls.Joined.{nothing}
-use Rattle.bcder.specs.calls.Meaning.{Encoded, Meaning, encoded_octets}
+use Rattle.bcder.specs.calls.Meaning.{Encoded, Meaning}
 use Rattle.bcder.specs.calls.Encoders.{SizeOfValues, Writes}
 use Rattle.asn1.specs.Types.{IsMember, BeginWithout}
 use Rattle.asn1.specs.Writing.{IsReadAs, AreTaken, AreReadAs}
@@ -24,15 +24,15 @@ module _ (P : Type 0) (M : Meaning → Type 0) (L : Type 0) where
   size_some n (Ok k) s = (s.0, inr (n, s.1), s.2)
   size_some n (Err e) s = record { meant = λ h. inr (n, s.meant h); lacking = s.lacking }
 
-  pub writes_none : (old : Option (List ℕ)) → P → Writes encoded_octets (WritesUnless P M) L old old (Ok tt)
-  writes_none old p = inl (record { what = nothing; meant = inl (p, refl); wrote = record { done = appends_none old } })
+  pub writes_none : (old : Option (List ℕ)) → P → Writes (λ (e : Encoded). e.octets) (WritesUnless P M) L old old (Ok tt)
+  writes_none old p = inl (nothing, inl (p, refl), record { done = appends_none old })
 
-  pub writes_some : (old new : Option (List ℕ)) (r : Result (Unit {0}) WriteError) → (P → ⊥) → Writes encoded_octets M L old new r
-      → Writes encoded_octets (WritesUnless P M) L old new r
-  writes_some old new r n (inl w) = inl (record { what = w.what; meant = inr (n, w.meant); wrote = w.wrote })
+  pub writes_some : (old new : Option (List ℕ)) (r : Result (Unit {0}) WriteError) → (P → ⊥) → Writes (λ (e : Encoded). e.octets) M L old new r
+      → Writes (λ (e : Encoded). e.octets) (WritesUnless P M) L old new r
+  writes_some old new r n (inl w) = inl (w.0, inr (n, w.1), w.2)
   writes_some old new r n (inr w) =
-      let r = w.refuses in
-      inr (record { error = w.error; answered = w.answered; refuses = record { meant = λ h. inr (n, r.meant h); lacking = r.lacking }; kept = w.kept })
+      let r = w.2 in
+      inr (w.0, w.1, record { meant = λ h. inr (n, r.meant h); lacking = r.lacking }, w.3)
 
 module _ {T K : Type 0} (mode : Mode) (Tags : Tag → Type 0) (Means : Tree → T → Type 0) (key : T → K) (default : K) where
   given_only : (k : K) (ts us vs : Trees) (y : T) → (a : AreTaken (IsMember Tags Means) key k ts us)

@@ -7,11 +7,13 @@ use Rattle.bcder.specs.declared.decode.error.DecodeError.{DecodeError}
 use Rattle.bcder.specs.x690.Identifier.{Tag}
 use Rattle.bcder.specs.x690.Tree.{Tree, primitive, constructed, Trees, no_trees}
 use Rattle.bcder.specs.calls.Cause.{cause_of, of_memory, IsRefusal}
-use Rattle.bcder.specs.calls.Content.{Reading, Octets, tagged, Moves, EndsBefore}
-use Rattle.bcder.specs.calls.Calls.{Answered, AnswersDone, TakesValue, HasForm, RefusesFront, RefusesContent, by_closure, unfinished, RefusesEnd, left_failed}
+use Rattle.bcder.specs.declared.decode.content.State.TheVariants.{Open}
+use Rattle.bcder.specs.calls.Content.{HasHeader, Reading, Octets, tagged, Moves, EndsBefore}
+use Rattle.bcder.specs.calls.Calls.{Answered, AnswersDone, TakesValue, RefusesFront, RefusesContent, by_closure, unfinished, RefusesEnd, left_failed}
 use Rattle.bcder.specs.calls.Calls.{source_failed, left_open}
 use Rattle.bcder.specs.calls.Takes.{TakesNext, RefusesTake, by_header, by_form, by_content}
-use Rattle.bcder.specs.calls.Valued.{HoldsValues, HoldsTree, HasTagged, ReadsTree, RefusesToRead, ReadsContent, ReadsAny, RefusesTree}
+use Rattle.bcder.specs.calls.Walking.{HasValue}
+use Rattle.bcder.specs.calls.Valued.{tag_of, HoldsValues, HoldsTree, ReadsTree, RefusesToRead, ReadsContent, ReadsAny, RefusesTree}
 use Rattle.bcder.specs.calls.Valued as valued
 use Rattle.bcder.specs.laws.Moved.{untouched_is_moved}
 use Rattle.bcder.proofs.Lemmas.{IsWithinOwed, as_many_are_no_fewer, done_is_at_its_end, grew_in_between}
@@ -220,15 +222,15 @@ module _ {C T X : Type 0} (view : C → Reading) (post : Tag → MutBor C → Re
       })
     ]
 
-    not_primitive : (f : HasForm false (tagged tag) c) → (t : Tree) (v rest : List ℕ) (x : T) → HasTagged tag c t v rest → Inside c.mode t x → ⊥
+    not_primitive : (f : (c.state ≡ Open) × (after : List ℕ) × (h : HasHeader (tagged tag) c after) × (Some false ≡ Some h.form)) → (t : Tree) (v rest : List ℕ) (x : T) → HasValue c t v rest × (tag_of t ≡ tag) → Inside c.mode t x → ⊥
     not_primitive f (primitive t b) v rest x h k = k
-    not_primitive f (constructed t ts) v rest x h k = primitive_in_front tag c f.after f.front f.is t ts v rest h
+    not_primitive f (constructed t ts) v rest x h k = primitive_in_front tag c f.1 f.2 (let y : Some false ≡ Some f.2.form = f.3 in cc) t ts v rest h
 
-    refused_form : (e : DecodeError X) → HasForm false (tagged tag) c → IsRefusal e
+    refused_form : (e : DecodeError X) → (c.state ≡ Open) × (after : List ℕ) × (h : HasHeader (tagged tag) c after) × (Some false ≡ Some h.form) → IsRefusal e
         → RefusesTree tag (Inside c.mode) c e d
     refused_form e f a =
-        refusals.Refuses.nothing (record { usable = f.usable; value = not_primitive f; absent = λ rest. header_is_there tag c f.after rest f.usable f.front })
-        (refused_behind_header (tagged tag) c (cause_of e) a f.after f.front)
+        refusals.Refuses.nothing (record { usable = f.0; value = not_primitive f; absent = λ rest. header_is_there tag c f.1 rest f.0 f.2 })
+        (refused_behind_header (tagged tag) c (cause_of e) a f.1 f.2)
 
     next_whole : (r : Result (Option T) (DecodeError X)) → TakesNext same Whole None (tagged tag) c r d → TakesNextTyped (Only tag) (Inside c.mode) true c r d
     next_whole r n = next_typed tag (Inside c.mode) c d w r (next_tree same Whole tag Inside (λ t p q z h. h) c d r w n)

@@ -63,7 +63,7 @@ module _ (c d : Reading) (w : IsWithinOwed c) (form : c.kind ≢ Octets) (asked 
   allocates (capturing.HasValueOrDeep.of_value t v after h) =
       let f = header_of_tagged c w (tag_of t) t v after (h, refl) in
       of_header (record { tag = tag_of t; is_one = encoded_tag c.mode t v h.encodes; after = f.0; header = f.1 })
-  allocates (capturing.HasValueOrDeep.of_depth h) = of_depth (λ t g. g) h
+  allocates (capturing.HasValueOrDeep.of_depth u s l) = of_depth (λ t g. g) (record { usable = u; some = s; leads = l })
 
   refused : {X : Type 0} (e : DecodeError X) → Refuses cause_of any HasNoNext ((cause_of e ≡ of_memory) × HasValueOrDeep c) c e d
       → RefusesTyped (Every asked) (KeepsValue c.mode) true c e d

@@ -5,7 +5,7 @@ use Rattle.bcder.specs.declared.encode.error.EncodeError.{EncodeError}
 use Rattle.bcder.specs.declared.encode.error.WriteError.{WriteError}
 use Rattle.bcder.specs.declared.mode.Mode.{Mode}
 use Rattle.bcder.specs.calls.Encoders.{RefusesBy, SizeOfValues, Writes}
-use Rattle.bcder.specs.calls.Meaning.{Meaning, IsLawful, encoded_octets}
+use Rattle.bcder.specs.calls.Meaning.{Encoded, Meaning, IsLawful}
 use Rattle.asn1.specs.Lawfully.{Lawfully}
 
 module _ (mode : Mode) (M : Meaning → Type 0) (l : IsLawful mode M) (lacks : Type 0) where
@@ -16,8 +16,8 @@ module _ (mode : Mode) (M : Meaning → Type 0) (l : IsLawful mode M) (lacks : T
   size_lawful (Ok n) (e, m, q) = (e, record { is = m; law = l }, q)
   size_lawful (Err e) r = refuses e r
 
-  pub written_lawful : (old new : Option (List ℕ)) (r : Result (Unit {0}) WriteError) → Writes encoded_octets M lacks old new r
-      → Writes encoded_octets (Lawfully mode M) lacks old new r
-  written_lawful old new r (inl w) = inl (record { what = w.what; meant = record { is = w.meant; law = l }; wrote = w.wrote })
+  pub written_lawful : (old new : Option (List ℕ)) (r : Result (Unit {0}) WriteError) → Writes (λ (e : Encoded). e.octets) M lacks old new r
+      → Writes (λ (e : Encoded). e.octets) (Lawfully mode M) lacks old new r
+  written_lawful old new r (inl w) = inl (w.0, record { is = w.1; law = l }, w.2)
   written_lawful old new r (inr w) =
-      inr (record { error = w.error; answered = w.answered; refuses = refuses w.error w.refuses; kept = w.kept })
+      inr (w.0, w.1, refuses w.0 w.2, w.3)

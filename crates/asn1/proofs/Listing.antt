@@ -3,14 +3,14 @@ use Rattle.std.proofs.Common.{◌≡◌, ℕ, List, Option, subst, sym, ap, IsEr
 use Rattle.std.specs.Prelude.{Result, Ok, Err}
 use Rattle.bcder.specs.declared.encode.error.WriteError.{WriteError}
 use Rattle.bcder.specs.calls.Joined.{Then}
-use Rattle.bcder.specs.calls.Meaning.{Encoded, Meaning, IsOne, encoded_octets}
+use Rattle.bcder.specs.calls.Meaning.{Encoded, Meaning, IsOne}
 use Rattle.bcder.specs.calls.Encoders.{HasEncoding, Writes, WritesEncoding, WroteOf}
 use Rattle.bcder.proofs.Lemmas.{wrote_what_is_meant, lacks_more, WrittenSoFar, written_one_more, written_not_one_more}
 
 module _ {M : Meaning → Type 0} (N rest : Meaning → Type 0) (lacks : Type 0) (one : IsOne N) {old now new : Option (List ℕ)} {r : Result (Unit {0}) WriteError}
-    (so_far : WrittenSoFar M (Then N rest) old now) (known : HasEncoding M) (w : Writes encoded_octets N lacks now new r) where
+    (so_far : WrittenSoFar M (Then N rest) old now) (known : HasEncoding M) (w : Writes (λ (e : Encoded). e.octets) N lacks now new r) where
   parts : WritesEncoding N lacks now new r
-  parts e m = wrote_what_is_meant _ one.same encoded_octets _ e _ _ _ m w
+  parts e m = wrote_what_is_meant _ one.same (λ (e : Encoded). e.octets) _ e _ _ _ m w
 
   pub written_on : r ≡ Ok tt → WrittenSoFar M rest old new
   written_on i = written_one_more N rest lacks so_far parts i

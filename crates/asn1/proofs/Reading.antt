@@ -9,8 +9,9 @@ use Rattle.bcder.specs.x690.Identifier.{Tag, IsValueTag, identifier, end_of_cont
 use Rattle.bcder.specs.x690.Tree.{Tree, primitive, constructed, Trees, no_trees, ◌∷ₜ◌}
 use Rattle.bcder.specs.x690.Encoding.{IsHeader, IsEncoding, AreEncodings, IsFramed}
 use Rattle.bcder.specs.calls.Cause.{IsRefusal}
-use Rattle.bcder.specs.calls.Content.{Reading, Octets, Moves, MovesBy, Whole, Falls, NotAtEnd, IsAtEnd, of_octets, of_definite, of_indefinite, of_unbounded}
-use Rattle.bcder.specs.calls.Content.{EndsBefore, any, tagged, HasOther, HasMarker, IsAbsent, IsElsewhere, none_left, other}
+use Rattle.bcder.specs.calls.Begins.{BeginsOther}
+use Rattle.bcder.specs.calls.Content.{Reading, Octets, Moves, MovesBy, Whole, Falls, IsAtEnd, of_octets, of_definite, of_indefinite, of_unbounded}
+use Rattle.bcder.specs.calls.Content.{EndsBefore, any, tagged, HasMarker, IsAbsent, IsElsewhere, none_left, other}
 use Rattle.bcder.specs.calls.Takes.{HasNone}
 use Rattle.bcder.specs.calls.Walking.{HasValue, HasValues, PassesValue, ClosesBefore}
 use Rattle.bcder.specs.calls.Valued.{HoldsValues, tag_of}
@@ -137,23 +138,22 @@ pub record LeavesAll (Tags : Tag → Type 0) (c d : Reading) : Type 0 where
 module _ (tag : Tag) (c : Reading) (w : IsWithinOwed c) where
   -- and the other way round
   other_of_header : (t : Tag) (f : Bool) (len : _) (h v behind : List ℕ) → t ≢ tag → IsHeader c.mode t f len h → c.stream.rest ≡ v ++ behind → (body : List ℕ)
-      → v ≡ h ++ body → HasOther tag c.stream.rest
-  other_of_header t f len h v behind n d r body e = record {
-    tag = t;
-    form = f;
-    after = d.length_octets ++ (body ++ behind);
-    is_tag = d.is_value_tag.fits;
-    differs = n;
-    rest =
-        r ∙ ap (λ z. z ++ behind) e ∙ append_assoc h body behind
-        ∙ ap (λ z. z ++ (body ++ behind)) d.is ∙ append_assoc (identifier t f) d.length_octets (body ++ behind);
-  }
+      → v ≡ h ++ body → BeginsOther tag c.stream.rest
+  other_of_header t f len h v behind n d r body e = (
+    t,
+    f,
+    d.length_octets ++ (body ++ behind),
+    d.is_value_tag.fits,
+    n,
+    r ∙ ap (λ z. z ++ behind) e ∙ append_assoc h body behind
+        ∙ ap (λ z. z ++ (body ++ behind)) d.is ∙ append_assoc (identifier t f) d.length_octets (body ++ behind),
+  )
 
-  pub other_of_value : (t : Tree) (v behind : List ℕ) → tag_of t ≢ tag → IsEncoding c.mode t v → c.stream.rest ≡ v ++ behind → HasOther tag c.stream.rest
+  pub other_of_value : (t : Tree) (v behind : List ℕ) → tag_of t ≢ tag → IsEncoding c.mode t v → c.stream.rest ≡ v ++ behind → BeginsOther tag c.stream.rest
   other_of_value (primitive t b) v behind n k r = other_of_header t false _ k.1.header v behind n k.1.is_header r b k.1.is
   other_of_value (constructed t ts) v behind n k r = of_framed k.2
     where
-      of_framed : IsFramed c.mode t k.0 v → HasOther tag c.stream.rest
+      of_framed : IsFramed c.mode t k.0 v → BeginsOther tag c.stream.rest
       of_framed (inl d) = other_of_header t true _ d.header v behind n d.is_header r k.0 d.is
       of_framed (inr d) = other_of_header t true _ d.header v behind n d.is_header r (k.0 ++ d.end) d.is
 
@@ -161,16 +161,16 @@ module _ (tag : Tag) (c : Reading) (w : IsWithinOwed c) where
   empty [] h = refl
   empty (x ∷ xs) h = absurd (omega arith)
 
-  marker_other : IsValueTag tag → (after x : List ℕ) → c.stream.rest ≡ after → HasMarker c.mode after x → HasOther tag c.stream.rest
+  marker_other : IsValueTag tag → (after x : List ℕ) → c.stream.rest ≡ after → HasMarker c.mode after x → BeginsOther tag c.stream.rest
   unfolding identifier
-  marker_other v after x r m = record {
-    tag = end_of_contents;
-    form = false;
-    after = m.is_end.zero_length ++ x;
-    is_tag = omega arith;
-    differs = λ e. v.no_end (sym e);
-    rest = r ∙ m.rest ∙ ap (λ z. z ++ x) m.is_end.is;
-  }
+  marker_other v after x r m = (
+    end_of_contents,
+    false,
+    m.is_end.zero_length ++ x,
+    omega arith,
+    λ e. v.no_end (sym e),
+    r ∙ m.rest ∙ ap (λ z. z ++ x) m.is_end.is,
+  )
 
 pub absent_at_end : (c : Reading) → IsWithinOwed c → (c.kind ≢ Octets) → (after : List ℕ) → IsAtEnd c after
     → (rest : List ℕ) × ((tag : Tag) → IsValueTag tag → IsElsewhere tag c rest)
@@ -265,14 +265,14 @@ module _ (c : Reading) (w : IsWithinOwed c) (t : Tree) (v after : List ℕ) (h :
       let t = trees_with_one_more c next w next_passed next_moves next_mode a in
       no_cons next_passed.tree a.trees (sym t ∙ one_values c v k ∙ e)
 
-pub none_not_inside : (c : Reading) → IsWithinOwed c → NotAtEnd c → HoldsValues c no_trees → ⊥
+pub none_not_inside : (c : Reading) → IsWithinOwed c → ((after : List ℕ) → EndsBefore c after → ⊥) → HoldsValues c no_trees → ⊥
 none_not_inside c w n (inl h) =
     no_values_without_a_first c (record {
       usable = h.usable;
       some = n;
       none = record { none = λ t x y k. some_value c w t x y k h.values h.are };
     }) h.values
-none_not_inside c w n (inr h) = n.none [] (inl h.0)
+none_not_inside c w n (inr h) = n [] (inl h.0)
 
 -- ---- content at its end, whose marker may have been taken
 
@@ -404,18 +404,16 @@ module _ {T : Type 0} (Tags : Tag → Type 0) (Means : Tree → T → Type 0) (c
       none_by_tags q no_trees (inr h) b = open_has_not_ended c.state n.usable h.0
       none_by_tags q no_trees (inl h) b =
           let k : c.kind ≢ Octets = (λ q. no_values_of_octets c q h.values) in
-          none_not_inside c w (record {
-            none = λ x z. elim z [
-              | inl y ↦ open_has_not_ended c.state n.usable y
-              | inr y ↦ (let a = absent_at_end c w k x y.1 in q a.0 (λ u p. inr (y.0, a.1 u (v.value_tags u p))))
-            ];
-          }) (inl h)
+          none_not_inside c w (λ x z. elim z [
+            | inl y ↦ open_has_not_ended c.state n.usable y
+            | inr y ↦ (let a = absent_at_end c w k x y.1 in q a.0 (λ u p. inr (y.0, a.1 u (v.value_tags u p))))
+          ]) (inl h)
       none_by_tags q (t ∷ₜ us) h b =
           let s = stands c t us h in
           q c.stream.rest
           (λ u p. inr (n.usable, other (other_of_value u c w t s.front s.behind (λ q. b (subst Tags (sym q) p)) s.has.encodes s.has.rest) refl))
 
-      none_by_end : AreEvery Tags → NotAtEnd c → (ts : Trees) → HoldsValues c ts → BeginWithout Tags ts → ⊥
+      none_by_end : AreEvery Tags → ((after : List ℕ) → EndsBefore c after → ⊥) → (ts : Trees) → HoldsValues c ts → BeginWithout Tags ts → ⊥
       none_by_end f e no_trees h b = none_not_inside c w e h
       none_by_end f e (t ∷ₜ us) h b = let s = stands c t us h in b (f (tag_of t) (encoded_tag c.mode t s.front s.has.encodes))
 

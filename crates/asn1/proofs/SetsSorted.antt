@@ -19,7 +19,7 @@ use Rattle.bcder.specs.declared.mode.Mode.TheVariants.{Ber, Cer, Der}
 use Rattle.bcder.specs.x690.Tree.{Trees, no_trees, ◌+++◌}
 use Rattle.bcder.specs.x690.Encoding.{AreEncodings}
 use Rattle.bcder.specs.calls.Captured.{Kept}
-use Rattle.bcder.specs.calls.Meaning.{Encoded, Meaning, IsLawful, encoded_octets}
+use Rattle.bcder.specs.calls.Meaning.{Encoded, Meaning, IsLawful}
 use Rattle.bcder.specs.calls.Joined.{nothing, EachOf, Joined}
 use Rattle.bcder.specs.calls.Gathered.{suits, KeptMeans, HoldsMeant}
 use Rattle.bcder.specs.calls.Encoders.{RefusesBy, SizeOfValues, Writes}
@@ -256,18 +256,18 @@ module _ {T : Type 0} (W : T → Meaning → Type 0) (xs : List T) where
     also_refuses : (e : EncodeError) → RefusesBy M L e → RefusesBy N K e
     also_refuses e h = record { meant = λ n. to (Err e) (h.meant n); lacking = λ q. f (h.lacking q) }
 
-    also_writes : {old new : Option (List ℕ)} (r : Result (Unit {0}) WriteError) → Writes encoded_octets M L old new r → Writes encoded_octets N K old new r
-    also_writes r (inl w) = inl (record { what = w.what; meant = to (Ok w.what) w.meant; wrote = lacks_more K f w.wrote })
-    also_writes r (inr w) = inr (record { error = w.error; answered = w.answered; refuses = also_refuses w.error w.refuses; kept = w.kept })
+    also_writes : {old new : Option (List ℕ)} (r : Result (Unit {0}) WriteError) → Writes (λ (e : Encoded). e.octets) M L old new r → Writes (λ (e : Encoded). e.octets) N K old new r
+    also_writes r (inl w) = inl (w.0, to (Ok w.0) w.1, lacks_more K f w.2)
+    also_writes r (inr w) = inr (w.0, w.1, also_refuses w.0 w.2, w.3)
 
   pub row_written : (mode : Mode) → ((x : T) → IsLawful mode (W x)) → (mode ≢ Ber → length xs < 2) → (L : T → Type 0) {old new : Option (List ℕ)}
-      (r : Result (Unit {0}) WriteError) → Writes encoded_octets (Joined (EachOf W xs)) (Any L xs) old new r
-      → Writes encoded_octets (WritesSetOf mode W xs) (MayLackForSet mode L xs) old new r
+      (r : Result (Unit {0}) WriteError) → Writes (λ (e : Encoded). e.octets) (Joined (EachOf W xs)) (Any L xs) old new r
+      → Writes (λ (e : Encoded). e.octets) (WritesSetOf mode W xs) (MayLackForSet mode L xs) old new r
   row_written mode l s L r w = also_writes (λ a. inl a) (row_in_set mode l s) r w
 
   pub kept_written : (mode : Mode) → mode ≢ Ber → (cs : List Kept) → AreKeptInOrder mode W xs cs → (L : Type 0) → (K : Type 0) → (L → K)
       → {old new : Option (List ℕ)} (r : Result (Unit {0}) WriteError)
-      → Writes encoded_octets (Joined (EachOf (λ (c : Kept). KeptMeans c mode) cs)) L old new r → Writes encoded_octets (WritesSetOf mode W xs) K old new r
+      → Writes (λ (e : Encoded). e.octets) (Joined (EachOf (λ (c : Kept). KeptMeans c mode) cs)) L old new r → Writes (λ (e : Encoded). e.octets) (WritesSetOf mode W xs) K old new r
   kept_written mode ne cs k L K f r w = also_writes f (λ m h. as_set mode ne m (kept_in_order mode W xs cs k m h)) r w
 
   pub set_refused : (mode : Mode) (L : T → Type 0) (e : EncodeError) → RefusesBy (Joined (EachOf W xs)) (Any L xs) e

@@ -3,7 +3,7 @@ use Rattle.std.proofs.Common.{◌≡◌, ℕ, List, sym, subst}
 use Rattle.std.specs.Prelude.{Result, Ok, Err}
 use Rattle.bcder.specs.declared.decode.error.ContentError.{ContentError}
 use Rattle.bcder.specs.declared.decode.error.DecodeError.{DecodeError}
-use Rattle.bcder.specs.calls.Cause.{cause_of, of_content, IsOfContent, IsStatic}
+use Rattle.bcder.specs.calls.Cause.{cause_of, of_content, IsOfContent}
 use Rattle.bcder.specs.calls.Content.{Reading}
 use Rattle.bcder.specs.calls.Readers.{Reads, RefusesReading, MeanNothing}
 use Rattle.bcder.specs.calls.Readers as readers
@@ -17,7 +17,7 @@ abbrev pub TellNothing : {B X : Type 0} → (B → List ℕ) → (B → ContentE
 TellNothing now Refuses w e = (p : _) × (error : ContentError) × (now p ≡ w) × Refuses p error × (cause_of e ≡ of_content error)
 
 module _ {B T X : Type 0} (now : B → List ℕ) (Tells : B → T → Type 0) (Refuses : B → ContentError → Type 0) (c d : Reading) (Means : List ℕ → T → Type 0)
-    (untold : (p : B) (error : ContentError) → Refuses p error → ((x : T) → Means (now p) x → ⊥) × IsStatic error) where
+    (untold : (p : B) (error : ContentError) → Refuses p error → ((x : T) → Means (now p) x → ⊥) × IsOfContent (of_content error)) where
   nothing : (w : List ℕ) (e : DecodeError X) → TellNothing now Refuses w e → MeanNothing Means w e
   nothing w e u = (let n = untold u.0 u.1 u.3 in (subst (λ z. (x : T) → Means z x → ⊥) u.2 n.0, subst IsOfContent (sym u.4) n.1))
 
@@ -56,5 +56,5 @@ module _ {B T X : Type 0} (now : B → List ℕ) (Tells : B → T → Type 0) (R
 pub told_reads : {B T X : Type 0} (now : B → List ℕ) (Tells : B → T → Type 0) (Refuses : B → ContentError → Type 0) (c d : Reading)
     (r : Result T (DecodeError X)) → Reads (TellOf now Tells) (TellNothing now Refuses) c r d
     → (Means : List ℕ → T → Type 0) → ((p : B) (x : T) → Tells p x → Means (now p) x)
-    → ((p : B) (error : ContentError) → Refuses p error → ((x : T) → Means (now p) x → ⊥) × IsStatic error) → Reads Means (MeanNothing Means) c r d
+    → ((p : B) (error : ContentError) → Refuses p error → ((x : T) → Means (now p) x → ⊥) × IsOfContent (of_content error)) → Reads Means (MeanNothing Means) c r d
 told_reads now Tells Refuses c d r h Means told untold = told_by now Tells Refuses c d Means untold told r h

@@ -14,9 +14,10 @@ use Rattle.bcder.specs.x690.Identifier.{Tag, IsValueTag}
 use Rattle.bcder.specs.x690.Tree.{Tree, primitive, constructed, Trees, no_trees, ◌∷ₜ◌}
 use Rattle.bcder.specs.calls.Stream.{Stream, Grew}
 use Rattle.bcder.specs.calls.CapturingValues.{BeginsDeep}
-use Rattle.bcder.specs.calls.Content.{Reading, Octets, any, tagged, IsAbsent, NotAtEnd, HasHeader}
+use Rattle.bcder.specs.calls.Content.{EndsBefore, Reading, Octets, any, tagged, IsAbsent, HasHeader}
 use Rattle.bcder.specs.calls.Takes.{HasNone}
 use Rattle.bcder.specs.calls.Walking.{HasValue}
+use Rattle.bcder.specs.calls.Typed.{InPrimitive}
 use Rattle.bcder.specs.calls.Valued.{tag_of, HoldsValues}
 use Rattle.bcder.specs.calls.Views.{before, after}
 
@@ -24,8 +25,7 @@ use Rattle.bcder.specs.calls.Views.{before, after}
 
 -- a primitive value whose contents octets mean x
 abbrev pub IsLeaf : {T : Type 0} → (List ℕ → T → Type 0) → Tree → T → Type 0
-IsLeaf Means (primitive t w) x = Means w x
-IsLeaf Means (constructed t ts) x = ⊥
+IsLeaf Means t x = InPrimitive Means t x
 
 -- a constructed value, all of whose values are the fields x
 abbrev pub AreInside : {T : Type 0} → (Trees → T → Trees → Type 0) → Tree → T → Type 0
@@ -67,7 +67,7 @@ pub data AllocatesFor (Tags : Tag → Type 0) (c : Reading) : Type 0 where
 -- it is not at its end
 pub data MayHave (Tags : Tag → Type 0) (c : Reading) : Type 0 where
   by_tags : ((rest : List ℕ) → ((t : Tag) → Tags t → IsAbsent (tagged t) c rest) → ⊥) → MayHave Tags c
-  by_end : AreEvery Tags → NotAtEnd c → MayHave Tags c
+  by_end : AreEvery Tags → ((after : List ℕ) → EndsBefore c after → ⊥) → MayHave Tags c
 
 module _ {T : Type 0} (Tags : Tag → Type 0) (Means : Tree → T → Type 0) where
   -- a value was taken as what it means

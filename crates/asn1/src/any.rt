@@ -1,9 +1,9 @@
 //! A value of any type, kept as its encoding.
 ghost use Rattle.std.specs.Prelude.{◌≡◌, IfOk, IfErr, Option, true, [], ◌∷◌};
 ghost use Rattle.bcder.specs.calls.Captured.{kept_stream};
-ghost use Rattle.bcder.specs.calls.CapturingValues.{CapturedNext};
+ghost use Rattle.bcder.specs.calls.CapturingValues.{CapturesNext};
 ghost use Rattle.bcder.specs.calls.Gathered.{KeptMeans};
-ghost use Rattle.bcder.specs.calls.Views.{Moved};
+ghost use Rattle.bcder.specs.calls.Views.{Moved, before, after};
 ghost use Rattle.bcder.specs.laws.Gathered.{kept_lawful};
 ghost use Rattle.bcder.specs.x690.Identifier.{null_tag};
 ghost use Rattle.bcder.specs.x690.Tree.{Tree};
@@ -60,7 +60,7 @@ impl Any {
         cons: &mut Constructed<'_, S>,
     ) -> Result<Option<Any>, DecodeError<S::Error>>
         ensures moves { Moved S.stream cons }
-        ensures captured { CapturedNext S.stream cons result }
+        ensures captured { CapturesNext (before S.stream cons) result (after S.stream cons) }
     {
         let mode = cons.mode();
         match cons.capture_opt_one(alloc) {

@@ -1,8 +1,8 @@
 //! A user's own type that stands for itself, written.
 ghost use Rattle.std.specs.Prelude.{◌≡◌, Result};
 ghost use Rattle.bcder.specs.declared.mode.Mode.{Mode as Rules};
-ghost use Rattle.bcder.specs.calls.Meaning.{Meaning, encoded_octets};
-ghost use Rattle.bcder.specs.calls.Encoders.{SizeOfValues, Writes, WritesValues};
+ghost use Rattle.bcder.specs.calls.Meaning.{Encoded, Meaning};
+ghost use Rattle.bcder.specs.calls.Encoders.{SizeOfValues, Writes};
 ghost use Rattle.asn1.specs.Writing.{IsReadAs};
 ghost use Rattle.asn1.specs.Lawfully.{Lawfully, lawfully};
 ghost use Rattle.asn1.specs.EncodeOf.{EncodeOf};
@@ -122,7 +122,7 @@ impl<W: io::Write> UseParts<W> for Writing {
 
     ghost mode = { λ m. m.mode };
 
-    ghost does = { λ _ writes lacks old new r. Writes encoded_octets writes lacks
+    ghost does = { λ _ writes lacks old new r. Writes (λ (e : Encoded). e.octets) writes lacks
         (W.contents old) (W.contents new) r };
 
     fn use_parts<E: Encode>(self, parts: &E, tag: Tag, target: &mut W) -> Result<(), WriteError> {
@@ -145,8 +145,8 @@ fn write_parts<E: Encode, W: io::Write>(
     mode: Mode,
     target: &mut W,
 ) -> Result<(), WriteError>
-    ensures { WritesValues W.contents target (Lawfully mode (E.writes tag parts.now mode))
-        (E.may_lack parts.now mode) result }
+    ensures { Writes (λ (e : Encoded). e.octets) (Lawfully mode (E.writes tag parts.now mode))
+        (E.may_lack parts.now mode) (W.contents target.old) (W.contents target.new) result }
 {
     parts.write_encoded_as(tag, mode, target)
 }

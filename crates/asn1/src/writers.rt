@@ -3,8 +3,8 @@ ghost use Rattle.std.specs.Prelude.{⊤};
 ghost use Rattle.bcder.specs.declared.mode.Mode.{Mode};
 ghost use Rattle.bcder.specs.x690.Identifier.{Tag as TagValue};
 ghost use Rattle.bcder.specs.x690.Tree.{Trees};
-ghost use Rattle.bcder.specs.calls.Meaning.{Meaning, IsLawful};
-ghost use Rattle.bcder.specs.calls.Encoders.{SizeOfValues, WritesValues};
+ghost use Rattle.bcder.specs.calls.Meaning.{Encoded, Meaning, IsLawful};
+ghost use Rattle.bcder.specs.calls.Encoders.{SizeOfValues, Writes};
 ghost use Rattle.asn1.specs.Writing.{IsReadAs, AreReadAs};
 
 use crate::{Fields, Type};
@@ -52,8 +52,8 @@ pub trait Encode: Type {
         mode: Mode,
         target: &mut W,
     ) -> Result<(), WriteError>
-        ensures { WritesValues W.contents target
-            (writes tag self.now mode) (may_lack self.now mode) result };
+        ensures { Writes (λ (e : Encoded). e.octets) (writes tag self.now mode)
+            (may_lack self.now mode) (W.contents target.old) (W.contents target.new) result };
 
     /// A law: what is written is read back.
     fn is_read_back(tag: Tag, mode: Mode)
@@ -93,8 +93,8 @@ pub trait EncodeFields: Fields {
     ///
     /// Those of [`write_encoded_as`](Encode::write_encoded_as).
     fn write_fields<W: io::Write>(&self, mode: Mode, target: &mut W) -> Result<(), WriteError>
-        ensures { WritesValues W.contents target
-            (lays self.now mode) (may_lack self.now mode) result };
+        ensures { Writes (λ (e : Encoded). e.octets) (lays self.now mode)
+            (may_lack self.now mode) (W.contents target.old) (W.contents target.new) result };
 
     /// A law: what is written is read back.
     fn are_read_back(mode: Mode)

@@ -6,17 +6,17 @@ use Rattle.bcder.specs.declared.length.Length.{Length}
 use Rattle.bcder.specs.declared.length.Length.TheVariants.{Definite}
 use Rattle.bcder.specs.declared.decode.header.Form.TheVariants as form
 use Rattle.bcder.specs.declared.decode.header.Header.{Header as CodeHeader}
-use Rattle.bcder.specs.declared.decode.content.State.TheVariants.{Failed}
+use Rattle.bcder.specs.declared.decode.content.State.TheVariants.{Open, Ended, Failed}
 use Rattle.bcder.specs.declared.decode.error.DecodeError.{DecodeError}
 use Rattle.bcder.specs.declared.decode.error.ContentError.{ContentError}
-use Rattle.bcder.specs.calls.Calls.{HasForm}
 use Rattle.bcder.specs.calls.Cause.{Cause, cause_of, IsOfContent}
-use Rattle.bcder.specs.x690.Identifier.{Tag}
+use Rattle.bcder.specs.x690.Identifier.{Tag, end_of_contents}
 use Rattle.bcder.specs.steps.Peek.{is_constructed, len_of, header_of, octets_header}
 use Rattle.bcder.specs.calls.Stream.{Grew}
-use Rattle.bcder.specs.calls.Content.{NothingThere, Reading, Asked, tagged, Enters, HasMarker, HasOther, Resembles, IsElsewhere, none_left}
-use Rattle.bcder.specs.calls.Content.{other, marker, IsAbsent, IsLeft}
-use Rattle.bcder.specs.steps.Entering.{EntersOctets}
+use Rattle.bcder.specs.calls.Begins.{BeginsOther}
+use Rattle.bcder.specs.calls.Content.{NothingThere, Reading, Asked, tagged, Enters, HasMarker, Resembles, IsElsewhere, none_left}
+use Rattle.bcder.specs.calls.Content.{other, marker, IsAbsent}
+use Rattle.bcder.specs.steps.Entering.{EntersOctets, HasForm}
 use Rattle.bcder.specs.calls.Takes.{HasNone, TakesNext, by_form}
 use Rattle.bcder.proofs.Entering.{looked_enters, header_entered, no_fewer}
 use Rattle.bcder.proofs.Stopping.{header_stopped}
@@ -38,7 +38,7 @@ alike c d s = record {
 
 elsewhere_alike : (c d : Reading) (s : Resembles c d) (t : Tag) (after : List ℕ) → IsElsewhere t c after → IsElsewhere t d after
 elsewhere_alike c d s t after (none_left e f) = none_left (s.rest ∙ e) f
-elsewhere_alike c d s t after (other o e) = other (subst (λ z. HasOther t z) (sym s.rest) o) (e ∙ sym s.rest)
+elsewhere_alike c d s t after (other o e) = other (subst (λ z. BeginsOther t z) (sym s.rest) o) (e ∙ sym s.rest)
 elsewhere_alike c d s t after (marker e k m) =
     marker e (s.kind ∙ k) (subst (λ z. HasMarker z d.stream.rest after) (sym s.mode) (subst (λ z. HasMarker c.mode z after) (sym s.rest) m))
 
@@ -48,7 +48,8 @@ absent_alike c d s t after (inr x) = inr (s.state ∙ x.0, elsewhere_alike c d s
 
 -- the content was looked at, without a fault, and then a call went on from there
 module _ (c d e : Reading) (s : Resembles c d) (f : d.stream.faults ≡ c.stream.faults) (t : Tag) where
-  left_alike : IsLeft t d e → IsLeft t c e
+  left_alike : (e.state ≡ d.state) × (e.stream.rest ≡ d.stream.rest) ⊎ (t ≡ end_of_contents) × (d.state ≡ Open) × (e.state ≡ Ended)
+      → (e.state ≡ c.state) × (e.stream.rest ≡ c.stream.rest) ⊎ (t ≡ end_of_contents) × (c.state ≡ Open) × (e.state ≡ Ended)
   left_alike (inl x) = inl (x.0 ∙ s.state, x.1 ∙ s.rest)
   left_alike (inr x) = inr (x.0, sym s.state ∙ x.1, x.2)
 
@@ -70,10 +71,10 @@ module _ (c d e : Reading) (s : Resembles c d) (f : d.stream.faults ≡ c.stream
     absent = λ after a. n.absent after (absent_alike c d s t after a);
   }) (named_alike c d (looked_alike c d s) (why x) (o.named n))
 
-  form_ahead : HasForm true (tagged t) d → HasForm true (tagged t) c
+  form_ahead : HasForm (Some true) (tagged t) d → HasForm (Some true) (tagged t) c
   unfolding header_alike
   form_ahead x =
-      record { usable = sym s.state ∙ x.usable; after = x.after; front = header_alike c d (looked_alike c d s) (tagged t) x.after x.front; is = x.is }
+      (sym s.state ∙ x.0, x.1, header_alike c d (looked_alike c d s) (tagged t) x.1 x.2, x.3)
 
   pub ahead : {E : Type 0} (why : E → Cause ContentError) (r : Result (Option ℕ) E) → EntersOctets why t d r e → EntersOctets why t c r e
   ahead why (Ok (Some n)) p = record {
@@ -102,8 +103,8 @@ module _ (c d : Reading) (t : Tag) (h : CodeHeader) (e : h.tag ≡ t) (x : Enter
       subst (λ z. Enters c (record { tag = z; form = false; len = Definite n }) d) e
       (subst (λ z. Enters c (record { tag = h.tag; form = is_constructed z; len = len_of z }) d) f x)
 
-  pub constructed_there : (l : Length) → h.form ≡ form.Constructed l → HasForm true (tagged t) c
-  constructed_there l f = record { usable = x.usable; after = d.stream.rest; front = header_entered c (header_of h) d (tagged t) e x; is = ap is_constructed f }
+  pub constructed_there : (l : Length) → h.form ≡ form.Constructed l → HasForm (Some true) (tagged t) c
+  constructed_there l f = (x.usable, d.stream.rest, header_entered c (header_of h) d (tagged t) e x, sym (ap (λ z. Some (is_constructed z)) f))
 
 -- an error is for the cause that a stop has
 abbrev IsOfCause : {X : Type 0} → Cause ContentError → DecodeError X → Type 0
@@ -113,7 +114,7 @@ IsOfCause s e = cause_of e ≡ s
 module _ {C T X S : Type 0} (view : C → Reading) (post : Tag → MutBor C → Result T (DecodeError X) → MutBor C → Type 0) (c d : Reading)
     (mode : d.mode ≡ c.mode) (t : Tag) where
   pub next_stopped : (stopped : S → Cause ContentError) (s : S) (e : DecodeError X) → IsOfCause (stopped s) e → d.marked ≡ c.marked → d.state ≡ Failed
-      → Refuses stopped (tagged t) (NothingThere (tagged t)) ⊥ c s d ⊎ HasForm true (tagged t) c × IsOfContent (stopped s)
+      → Refuses stopped (tagged t) (NothingThere (tagged t)) ⊥ c s d ⊎ HasForm (Some true) (tagged t) c × IsOfContent (stopped s)
       → TakesNext view post (Some true) (tagged t) c (Err e) d
   next_stopped stopped s e same m f (inl h) =
       next_refused view post (Some true) (tagged t) c d mode e (header_stopped stopped cause_of s e same c d (tagged t) h) m f
@@ -122,7 +123,7 @@ module _ {C T X S : Type 0} (view : C → Reading) (post : Tag → MutBor C → 
 
   -- a result that is an error of this cause refuses the next value
   pub next_stops : (stopped : S → Cause ContentError) (s : S) (r : Result (Option T) (DecodeError X)) → IsErrAnd r (IsOfCause (stopped s)) → d.marked ≡ c.marked
-      → d.state ≡ Failed → Refuses stopped (tagged t) (NothingThere (tagged t)) ⊥ c s d ⊎ HasForm true (tagged t) c × IsOfContent (stopped s)
+      → d.state ≡ Failed → Refuses stopped (tagged t) (NothingThere (tagged t)) ⊥ c s d ⊎ HasForm (Some true) (tagged t) c × IsOfContent (stopped s)
       → TakesNext view post (Some true) (tagged t) c r d
   next_stops stopped s (Err e) y m f h = next_stopped stopped s e y m f h
   next_stops stopped s (Ok _) y m f h = elim y [ ]

@@ -8,7 +8,7 @@ use Rattle.bcder.specs.declared.decode.error.ContentError.{ContentError}
 use Rattle.bcder.specs.calls.Cause.{Cause}
 use Rattle.bcder.specs.x690.Preorder.{Heading}
 use Rattle.bcder.specs.calls.Stream.{Stream}
-use Rattle.bcder.specs.calls.Content.{any, Reading, ContentForm, Moves, Whole, EndsBefore, NotAtEnd}
+use Rattle.bcder.specs.calls.Content.{any, Reading, ContentForm, Moves, Whole, EndsBefore}
 use Rattle.bcder.specs.calls.Walking.{HasNoNext, PassesValue}
 use Rattle.bcder.specs.calls.Takes.{NextBy}
 use Rattle.bcder.specs.calls.Skipping.{WereCalls, RefusesOne}
@@ -54,8 +54,8 @@ module _ (n : GName) where
   ends_unnamed : (c : Reading) (after : List ℕ) → EndsBefore (named n c) after → EndsBefore c after
   ends_unnamed c after e = ends_alike c (named n c) (alike_unnamed c) after e
 
-  open_named : (c : Reading) → NotAtEnd c → NotAtEnd (named n c)
-  open_named c o = record { none = λ after e. o.none after (ends_unnamed c after e) }
+  open_named : (c : Reading) → ((after : List ℕ) → EndsBefore c after → ⊥) → (after : List ℕ) → EndsBefore (named n c) after → ⊥
+  open_named c o = λ after e. o after (ends_unnamed c after e)
 
   nothing_named : (c : Reading) → HasNoNext c → HasNoNext (named n c)
   nothing_named c v = record {

@@ -21,8 +21,8 @@ use Rattle.bcder.specs.calls.Refusals.{Refuses, failed, source, nothing, otherwi
 use Rattle.bcder.specs.calls.CapturingValues.{CapturesBy, PassesBy, LeadDeep, BeginsDeep}
 use Rattle.bcder.specs.calls.CapturingValues.{HasValueOrDeep, of_value, of_depth, HasValuesOrDeep, MetDeep, CapturesValue}
 use Rattle.bcder.specs.calls.CapturingValues.{CapturesNext, CapturesValues, HasOthers, PassesToEnd}
-use Rattle.bcder.specs.calls.Content.{NothingThere, Reading, ContentForm, values, Octets, IndefiniteValues, label, Closes, Moves, Whole, Falls}
-use Rattle.bcder.specs.calls.Content.{HasMarker, EndsBefore, NotAtEnd, IsDone, IsUsedUp, any}
+use Rattle.bcder.specs.calls.Content.{NothingThere, Reading, ContentForm, values, Octets, label, Closes, Moves, Whole, Falls}
+use Rattle.bcder.specs.calls.Content.{HasMarker, EndsBefore, IsDone, IsUsedUp, any}
 use Rattle.bcder.specs.calls.Calls.{Answered}
 use Rattle.bcder.specs.calls.Decoding.{by_closure, left_failed}
 use Rattle.bcder.specs.calls.Walking.{HasNoNext, HasNoValue, HasValue, PassesValue, ClosesBefore, HasValues, Walks, RefusesValues}
@@ -85,7 +85,7 @@ where_of P Q D E c i j d f g e s a b (nothing n o) = nothing (f n) (front_named 
 where_of P Q D E c i j d f g e s a b (otherwise n) = otherwise (g n)
 
 pub end_has_none : (c d : Reading) → Within c → EndsBefore c d.stream.rest → HasNoValue c
-end_has_none c d w e = record { none = λ t v after h. (value_not_at_end c w t v after h).none d.stream.rest e }
+end_has_none c d w e = record { none = λ t v after h. value_not_at_end c w t v after h d.stream.rest e }
 
 -- ---- a closure whose steps are captured
 
@@ -139,7 +139,7 @@ module _ {C X : Type 0} (view : C → Reading) (post : MutBor C → Result (Unit
       captured = tt;
       no_fault = tt;
       refused = refused_left c n.handed n.left d e n.hands n.moves n.refuses;
-      as_before = record { rest = n.rest; owed = n.owed; state = n.state };
+      as_before = (n.rest, n.owed, n.state);
       mode = m;
       marked = mark_of c d n.handed n.left n.hands.marked (left_mark n.handed n.left e d.stream.faults n.refuses) n.marked;
     }
@@ -195,8 +195,8 @@ module _ (c i : Reading) (g : GoesOn c i) where
 
   some_first : HasValueOrDeep i → HasValueOrDeep c
   some_first (of_value t w after v) = of_value t w after (value_first t w after v)
-  some_first (of_depth b) = of_depth
-      (record { usable = g.usable; some = g.some; leads = subst (λ m. LeadDeep m c.stream.rest) g.same.mode (subst (LeadDeep i.mode) g.same.rest b.leads) })
+  some_first (of_depth u s l) =
+      of_depth g.usable g.some (subst (λ m. LeadDeep m c.stream.rest) g.same.mode (subst (LeadDeep i.mode) g.same.rest l))
 
   captured_first : (k : Kept) (d : Reading) → CapturesValue i k d → CapturesValue c k d
   captured_first k d h = record {
@@ -236,7 +236,7 @@ module _ (c i : Reading) (g : GoesOn c i) where
       pub failed_moves : Moves d (as_failed d)
       failed_moves = looked_failed d d (record { rest = refl; kept = refl; owed = refl; kind = refl; state = refl; mode = refl; marked = refl; name = refl })
           (let z : d.stream.faults ≤ d.stream.faults = omega arith in z) (as_failed d)
-          (h.as_before.state ∙ g.same.state ∙ g.usable) refl refl refl refl refl refl refl
+          (h.as_before.2 ∙ g.same.state ∙ g.usable) refl refl refl refl refl refl refl
 
 pub next_ended : {X : Type 0} (c d : Reading) → HasNone any c d → d.mode ≡ c.mode → CapturesNext {X = X} c (Ok None) d
 next_ended c d n m = record {
@@ -315,7 +315,7 @@ module _ {C X : Type 0} (view : C → Reading) (post : MutBor C → Result (Unit
   no_values e = both_empty k.octets h.holds.close (sym (all_passed m.passed m.rest) ∙ (m.ended e).1)
 
   -- only content of indefinite length ends by a marker
-  ended_by : c.state ≡ Open → d.state ≡ Ended → c.kind ≡ IndefiniteValues
+  ended_by : c.state ≡ Open → d.state ≡ Ended → c.kind ≡ values kind.Indefinite
   unfolding Moves
   ended_by o e = elim (m.ends e) [ inl x ↦ absurd (open_not_ended c.state o x) | inr x ↦ x ]
 
@@ -323,7 +323,7 @@ module _ {C X : Type 0} (view : C → Reading) (post : MutBor C → Result (Unit
   marked_by o e = elim h.holds.closes
       [ inl x ↦ absurd (open_not_ended c.state o (sym x.1 ∙ e)) | inr x ↦ record { marker = h.holds.close; is_end = rw (← same_mode) x.0; rest = refl } ]
 
-  used_up : (g : ContentForm) → d.kind ≡ g → g ≢ IndefiniteValues → c.state ≡ Open → c.kind ≡ g → (d.state ≡ Open) × IsUsedUp g d.owed d.stream.rest
+  used_up : (g : ContentForm) → d.kind ≡ g → g ≢ values kind.Indefinite → c.state ≡ Open → c.kind ≡ g → (d.state ≡ Open) × IsUsedUp g d.owed d.stream.rest
   used_up g e n o ck = elim is_done [ inl x ↦ absurd (n (sym ck ∙ ended_by o x)) | inr x ↦ (x.0, subst (λ z. IsUsedUp z d.owed d.stream.rest) e x.1) ]
 
   unmarked_close : d.state ≡ Open → h.holds.close ≡ []
@@ -369,7 +369,7 @@ not_none [] h e = cc
 not_none (k ∷ calls) h e = cc
 
 -- content that goes deep is open, and not at its end
-deep_usable : (c d : Reading) → GoesDeep c d → (c.state ≡ Open) × NotAtEnd c
+deep_usable : (c d : Reading) → GoesDeep c d → (c.state ≡ Open) × ((after : List ℕ) → EndsBefore c after → ⊥)
 deep_usable c d g = g.were.usable (not_none g.calls g.last)
 
 pub begins_deep : (c d : Reading) → GoesDeep c d → BeginsDeep c
@@ -386,11 +386,7 @@ leads_of : (c i : Reading) → IsCaptureOf c i → LeadDeep i.mode i.stream.rest
 leads_of c i h x = subst (λ m. LeadDeep m c.stream.rest) h.mode (subst (LeadDeep i.mode) h.rest x)
 
 pub one_deep : (c i : Reading) → IsCaptureOf c i → BeginsDeep i → HasValueOrDeep c
-one_deep c i h b = of_depth (record {
-  usable = sym h.state ∙ b.usable;
-  some = record { none = λ after e. b.some.none after (ends_alike i c (around_alike c i h) after e) };
-  leads = leads_of c i h b.leads;
-})
+one_deep c i h b = of_depth (sym h.state ∙ b.usable) (λ after e. b.some after (ends_alike i c (around_alike c i h) after e)) (leads_of c i h b.leads)
 
 pub one_kept : (c i j : Reading) → IsCaptureOf c i → Moves i j → PassesValue i j → length j.stream.rest < length i.stream.rest → HasValueOrDeep c
 one_kept c i j h m p l = of_value p.tree p.value j.stream.rest (record {
@@ -470,7 +466,7 @@ all_deep c i h b =
     let m : label i.mode j.marked ≡ c.mode = ap (λ z. label i.mode z) (b.walks.marked ∙ h.marked) ∙ h.mode in
     record {
       usable = sym h.state ∙ still_open i j b.walks u.0;
-      some = λ d. u.1.none j.stream.rest (done_here j j.kind refl (done_stays i j b.walks.moves u.0 (done_of i c h.state h.kind h.owed h.rest d)));
+      some = λ d. u.1 j.stream.rest (done_here j j.kind refl (done_stays i j b.walks.moves u.0 (done_of i c h.state h.kind h.owed h.rest d)));
       there = inr (record {
         values = w.trees;
         front = w.values;

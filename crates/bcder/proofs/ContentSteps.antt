@@ -149,10 +149,8 @@ module _ (m : Mode) (name : GName) where
       done = tt;
       refused = refusals.Refuses.otherwise (
         refl,
-        record {
-          short = λ q z. let w : length s.rest < n = h.0 in let y : length (take n s.rest) ≤ length s.rest = grind (arith, common_steps) in
-              let v : n ≡ q = (let u : ◌≡◌ {A = Option ℕ} (Some n) (Some q) = z in cc) in omega arith;
-        },
+        (λ q z. let w : length s.rest < n = h.0 in let y : length (take n s.rest) ≤ length s.rest = grind (arith, common_steps) in
+            let v : n ≡ q = (let u : ◌≡◌ {A = Option ℕ} (Some n) (Some q) = z in cc) in omega arith),
         h.1,
       );
     }

@@ -9,9 +9,10 @@ use Rattle.bcder.specs.declared.decode.error.DecodeError.{DecodeError}
 use Rattle.bcder.specs.declared.decode.error.DecodeError.TheVariants.{Source, Content, NoMemory}
 use Rattle.bcder.specs.calls.Cause.{Cause, cause_of, position_of, MatchCause, IsRefusal}
 use Rattle.bcder.specs.declared.decode.content.State.TheVariants.{Open}
-use Rattle.bcder.specs.calls.Content.{Reading, Octets, UnboundedValues, Moves, Falls, Resembles}
+use Rattle.bcder.specs.declared.decode.content.Kind.TheVariants as kind
+use Rattle.bcder.specs.calls.Content.{Reading, Octets, Moves, Falls, Resembles, values}
 use Rattle.bcder.specs.calls.Calls.{RunsOver}
-use Rattle.bcder.specs.calls.Decoding.{HandsAll, RanOn, Decodes, RefusesDecode}
+use Rattle.bcder.specs.calls.Decoding.{IsAllOf, RanOn, Decodes, RefusesDecode}
 use Rattle.bcder.specs.calls.DecodingAll.{AnswersToEnd, RefusesToEnd, IsWithin, HandsWithin, DecodesWithin, RefusesWithin}
 use Rattle.bcder.specs.calls.DecodingAll.{RefusesRest, octets_left, source_failed, DecodesWhole, RefusesWhole, by_decoding, by_rest}
 use Rattle.bcder.specs.calls.Views.{lent}
@@ -30,12 +31,18 @@ unfolding Moves
 moves_unlimited i j m e = falls_none (length m.passed) j.owed (let f : Falls i.owed (length m.passed) j.owed = m.owed in rw e at f)
 
 pub still_unlimited : (s s' : Stream) (m : Mode) (i j : Reading) (o o' : Option ℕ) → o ≡ None
-    → RunsOver (limited o s) o UnboundedValues m i j (limited o' s') o' → o' ≡ None
+    → RunsOver (limited o s) o (values kind.Unbounded) m i j (limited o' s') o' → o' ≡ None
 still_unlimited s s' m i j o o' n r = sym r.left_owed ∙ moves_unlimited i j r.moves (r.owed ∙ n)
+
+-- a closure got content i over the source s, and left j over s'
+pub record HandsAll (s : Stream) (m : Mode) (i j : Reading) (s' : Stream) : Type 0 where
+  pub over : IsAllOf s m i
+  pub leaves : j.stream ≡ limited None s'
+  pub moves : Moves i j
 
 -- what a closure left of content over a source without a limit is over what is left of the source
 pub hands_all : (s s' : Stream) (m : Mode) (i j : Reading) (o o' : Option ℕ) → o ≡ None
-    → RunsOver (limited o s) o UnboundedValues m i j (limited o' s') o' → HandsAll s m i j s'
+    → RunsOver (limited o s) o (values kind.Unbounded) m i j (limited o' s') o' → HandsAll s m i j s'
 hands_all s s' m i j o o' n r =
     let n' : o' ≡ None = still_unlimited s s' m i j o o' n r in
     record {
@@ -48,12 +55,15 @@ module _ {C T E : Type 0} (why : E → Cause ContentError) (view : C → Reading
     (o o' : Option ℕ) (n : o ≡ None) where
   pub decoded : (r : Result T E) → RanOn why view post (limited o s) o m r (limited o' s') o' → IfOk r (λ x. Decodes view post s m x s')
   decoded (Ok x) h =
-      record { handed = h.handed; left = h.left; hands = hands_all s s' m h.handed h.left o o' n h.runs; answered = h.answers; usable = h.usable }
+      let a = hands_all s s' m h.handed h.left o o' n h.runs in
+      record { handed = h.handed; left = h.left; over = a.over; leaves = a.leaves; moves = a.moves; answered = h.answers; usable = h.usable }
   decoded (Err e) h = tt
 
   pub not_decoded : (r : Result T E) → RanOn why view post (limited o s) o m r (limited o' s') o' → IfErr r (λ e. RefusesDecode why view post s m e s')
   not_decoded (Ok x) h = tt
-  not_decoded (Err e) h = record { handed = h.handed; left = h.left; hands = hands_all s s' m h.handed h.left o o' n h.runs; refuses = h.refuses }
+  not_decoded (Err e) h =
+      let a = hands_all s s' m h.handed h.left o o' n h.runs in
+      record { handed = h.handed; left = h.left; over = a.over; leaves = a.leaves; moves = a.moves; refuses = h.refuses }
 
   -- a source that was handed over was decoded, whatever is left of it
   pub decoded_once : (t : Stream) → s ≡ t → (r : Result T E) → RanOn why view post (limited o s) o m r (limited o' s') o'

@@ -17,9 +17,12 @@ use Rattle.bcder.specs.steps.Peek.{asked, HasOtherTag, HasNoHeader}
 use Rattle.bcder.specs.calls.Stream.{Layer, Stream, IsSound, Grew, cut, past, limited}
 use Rattle.bcder.specs.declared.decode.error.ContentError.{ContentError}
 use Rattle.bcder.specs.calls.Cause.{Cause}
-use Rattle.bcder.specs.calls.Content.{Reading, Asked, any, tagged, IsAsked, HasHeader, HasMarker, IndefiniteValues, HasOther, Falls, FitsOwed}
-use Rattle.bcder.specs.calls.Content.{Advances, Moves, Enters, TakesMarker, NoFront, Resembles, HasLongValue, values, Octets, DefiniteValues}
-use Rattle.bcder.specs.calls.Content.{UnboundedValues, IsAtEnd, of_octets, of_definite, of_indefinite, of_unbounded, NotAtEnd, IsElsewhere, none_left}
+use Rattle.bcder.specs.declared.decode.content.Kind.TheVariants as kind
+use Rattle.bcder.specs.declared.decode.violation.Violation.TheVariants as v
+use Rattle.bcder.specs.calls.Begins.{BeginsOther}
+use Rattle.bcder.specs.calls.Content.{EndsBefore, Reading, Asked, any, tagged, IsAsked, HasHeader, HasMarker, Falls, FitsOwed}
+use Rattle.bcder.specs.calls.Content.{Advances, Moves, Enters, TakesMarker, NoFront, Resembles, Violates, values, Octets}
+use Rattle.bcder.specs.calls.Content.{IsAtEnd, of_octets, of_definite, of_indefinite, of_unbounded, IsElsewhere, none_left}
 use Rattle.bcder.specs.calls.Content.{other, marker, IsMissing, NothingThere}
 use Rattle.bcder.specs.calls.Calls.{RefusesEnd, left_failed, source_failed, left_open}
 use Rattle.bcder.specs.laws.Limits.{limit_told_after, limited_sound}
@@ -119,7 +122,7 @@ module _ (c d : Reading) (n : ℕ) (a : Advances c d (take n c.stream.rest)) (o 
       marker = λ k after m. no_marker_unread c.mode c.stream.rest after (header_no_end c.mode c.stream.rest h (drop n c.stream.rest) r) m;
     }
 
-    pub too_long : (FitsOwed h.len d.owed → ⊥) → HasLongValue c
+    pub too_long : (FitsOwed h.len d.owed → ⊥) → Violates c v.ValueTooLong
     too_long x =
         let p : Headed c.mode h c.stream.rest (drop n c.stream.rest) = header_sound c.mode c.stream.rest (h, drop n c.stream.rest) o r in
         long_value c d h (drop n c.stream.rest) p (subst (λ z. Falls c.owed (length z) d.owed) (sym (drop_rest n c.stream.rest p.octets p.is l)) a.owed) x
@@ -129,16 +132,16 @@ module _ (c d : Reading) (n : ℕ) (a : Advances c d (take n c.stream.rest)) (o 
     pub marker_here : HasMarker c.mode c.stream.rest d.stream.rest
     marker_here = subst (λ z. HasMarker c.mode c.stream.rest z) (sym rest_is) (marker_of_end c.mode c.stream.rest (drop n c.stream.rest) o r)
 
-    pub takes_marker : c.kind ≡ IndefiniteValues → d.state ≡ Ended → TakesMarker c d
+    pub takes_marker : c.kind ≡ values kind.Indefinite → d.state ≡ Ended → TakesMarker c d
     takes_marker k f = record { usable = s; kind = k; marker = marker_here; ended = f }
 
-    pub marker_moves : c.kind ≡ IndefiniteValues → d.state ≡ Ended → d.marked ≡ c.marked → Moves c d
+    pub marker_moves : c.kind ≡ values kind.Indefinite → d.state ≡ Ended → d.marked ≡ c.marked → Moves c d
     marker_moves k f m =
         let q : HasMarker c.mode c.stream.rest d.stream.rest = marker_here in
         let t : q.marker ≡ take n c.stream.rest = drop_rest n c.stream.rest q.marker (q.rest ∙ ap (λ z. q.marker ++ z) rest_is) l in
         moves_marker c d q.marker (subst (λ z. Advances c d z) (sym t) a) q.is_end m k s f
 
-    pub no_end_here : (c.kind ≡ IndefiniteValues → ⊥) → NoFront c
+    pub no_end_here : (c.kind ≡ values kind.Indefinite → ⊥) → NoFront c
     no_end_here x = record {
       some = λ e. none_is _ (sym (empty_unended c.mode) ∙ subst (λ z. read_end c.mode z ≡ Some (drop n c.stream.rest)) e r);
       header = λ asked after z. no_header_unread asked c after (end_no_header c.mode c.stream.rest (drop n c.stream.rest) r) z;
@@ -263,7 +266,7 @@ unread_front c l e n = record {
   marker = λ k after m. no_marker_unread c.mode c.stream.rest after n m;
 }
 
-pub empty_nothing : (c : Reading) → c.kind ≢ Octets → (c.kind ≡ DefiniteValues → c.owed ≡ Some 0 → ⊥) → (c.kind ≡ UnboundedValues → ⊥) → c.state ≡ Open
+pub empty_nothing : (c : Reading) → c.kind ≢ Octets → (c.kind ≡ values kind.Definite → c.owed ≡ Some 0 → ⊥) → (c.kind ≡ values kind.Unbounded → ⊥) → c.state ≡ Open
     → c.stream.rest ≡ [] → NothingThere any c
 empty_nothing c k d u o e = record {
   usable = o;
@@ -278,8 +281,8 @@ empty_nothing c k d u o e = record {
     at_end after (of_unbounded q z) = u q
 
 -- where a header stands in front, content is not at its end
-pub header_not_at_end : (c : Reading) (after : List ℕ) → Within c → c.state ≡ Open → HasHeader any c after → NotAtEnd c
-header_not_at_end c after w o h = record { none = λ b e. elim e [ inl y ↦ open_not_ended c.state o y | inr y ↦ at_end b y.1 ] }
+pub header_not_at_end : (c : Reading) (after : List ℕ) → Within c → c.state ≡ Open → HasHeader any c after → (after : List ℕ) → EndsBefore c after → ⊥
+header_not_at_end c after w o h = λ b e. elim e [ inl y ↦ open_not_ended c.state o y | inr y ↦ at_end b y.1 ]
   where
     at_end : (b : List ℕ) → IsAtEnd c b → ⊥
     at_end b (of_octets q z) = no_header_empty any c after (used_rest c w z) h
@@ -303,7 +306,7 @@ header_entered c h d asked t x = record {
 
 -- ---- a value of one tag
 
-module _ (c : Reading) (t : Tag) (o : c.state ≡ Open) (n : NoFront c) (no_other : HasOther t c.stream.rest → ⊥) where
+module _ (c : Reading) (t : Tag) (o : c.state ≡ Open) (n : NoFront c) (no_other : BeginsOther t c.stream.rest → ⊥) where
   front_is_nothing : NothingThere (tagged t) c
   front_is_nothing = record {
     usable = o;
@@ -342,7 +345,7 @@ module _ (c d : Reading) (s : Resembles c d) (o : c.state ≡ Open) where
   other_missing (Tagged t) i u =
       (inr (o, other (other_of t c.stream.rest i.octets (subst (λ z. HasOtherTag (tagged t) z) s.rest u)) s.rest), inl (s.state, s.rest))
 
-  pub none_nothing : (w : Wanted) → (w ≡ Any) → c.kind ≢ Octets → (c.kind ≡ DefiniteValues → c.owed ≡ Some 0 → ⊥) → (c.kind ≡ UnboundedValues → ⊥)
+  pub none_nothing : (w : Wanted) → (w ≡ Any) → c.kind ≢ Octets → (c.kind ≡ values kind.Definite → c.owed ≡ Some 0 → ⊥) → (c.kind ≡ values kind.Unbounded → ⊥)
       → d.stream.rest ≡ [] → NothingThere (asked w) c
   none_nothing Any a k n u e = empty_nothing c k n u o (sym s.rest ∙ e)
   none_nothing (Tagged t) a k n u e = absurd cc
@@ -371,19 +374,19 @@ module _ (c d : Reading) (s : Resembles c d) (o : c.state ≡ Open) where
       here : HasMarker c.mode c.stream.rest e.stream.rest
       here = subst (λ z. HasMarker z c.stream.rest e.stream.rest) s.mode (subst (λ z. HasMarker d.mode z e.stream.rest) s.rest m.marker)
 
-      kind : c.kind ≡ IndefiniteValues
-      kind = sym s.kind ∙ m.kind
+      is_kind : c.kind ≡ values kind.Indefinite
+      is_kind = sym s.kind ∙ m.kind
 
       by : (w : Wanted) → IsAsked (asked w) end_of_contents → IsMissing (asked w) c e
-      by Any i = (inr (o, of_indefinite kind here), inl m.ended)
-      by (Tagged t) i = (inr (o, marker (sym i) kind here), inr (sym i, o, m.ended))
+      by Any i = (inr (o, of_indefinite is_kind here), inl m.ended)
+      by (Tagged t) i = (inr (o, marker (sym i) is_kind here), inr (sym i, o, m.ended))
 
 -- ---- why content is not left at its end
 
 pub end_refused : {E : Type 0} (why : E → Cause ContentError) (c d : Reading) (e : E) → Refuses why any (NothingThere any) ⊥ c e d → RefusesEnd why c e d
 end_refused why c d e (failed s o) = left_failed s o
 end_refused why c d e (source k g) = source_failed k g
-end_refused why c d e (nothing n o) = left_open (record { none = n.absent }) o.refused
+end_refused why c d e (nothing n o) = left_open n.absent o.refused
 end_refused why c d e (otherwise n) = absurd n
 
 -- ---- whether the octets that a length promises are within what is owed

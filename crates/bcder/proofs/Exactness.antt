@@ -14,7 +14,7 @@ use Rattle.bcder.specs.calls.Content.{any, Reading, Octets, EndsBefore}
 use Rattle.bcder.specs.calls.Walking.{HasNoNext, HasNoValue, HasValue, PassesValue, HasValues, AllBy}
 use Rattle.bcder.specs.calls.Takes.{NextBy}
 use Rattle.bcder.specs.calls.Walking as walking
-use Rattle.bcder.specs.calls.Skipping.{Steps, RefusesSkip, SkippedBy, SkippedValueBy, RefusesOne, RefusesSkipAll}
+use Rattle.bcder.specs.calls.Skipping.{Steps, SkipsValue, RefusesSkip, SkippedValueBy, RefusesOne, RefusesSkipAll}
 use Rattle.bcder.specs.calls.Skipping as skipping
 use Rattle.bcder.specs.calls.CapturingValues.{CapturesBy, HasValueOrDeep, of_value, of_depth}
 use Rattle.bcder.specs.calls.CapturingValues.{HasValuesOrDeep, CapturesValue, CapturesNext, CapturesValues, HasOthers}
@@ -44,16 +44,16 @@ module _ (c d : Reading) (within : Within c) (sound : Grew c.stream.faults d.str
     no_refused_end : (after : List ℕ) → EndsBefore c after → Refuses cause_of any HasNoNext ⊥ c e d → ⊥
     no_refused_end after h (failed s a) = failed_end c after h s
     no_refused_end after h (source k s) = sound s
-    no_refused_end after h (nothing n a) = n.some.none after h
+    no_refused_end after h (nothing n a) = n.some after h
     no_refused_end after h (otherwise n) = absurd n
 
   pub answers_next : {T X : Type 0} (r : Result (Option T) (DecodeError X)) → IfOk r (λ o. IfSome o (λ _. PassesValue c d))
       → IfOk r (λ o. IfNone o (EndsBefore c d.stream.rest)) → IfErr r (λ e. Refuses cause_of any HasNoNext ⊥ c e d) → AnswersNext c r d
   answers_next (Ok None) a b n =
-      record { found = λ t v after h. absurd (let z = value_not_at_end c within t v after h in z.none d.stream.rest b); ended = λ after h. refl }
+      record { found = λ t v after h. absurd (let z = value_not_at_end c within t v after h in z d.stream.rest b); ended = λ after h. refl }
   answers_next (Ok (Some x)) a b n = record {
     found = λ t v after h. (refl, (let s = value_once c a.tree t a.value v d.stream.rest after a.has h in s.rest));
-    ended = λ after h. absurd (let z = value_not_at_end c within a.tree a.value d.stream.rest a.has in z.none after h);
+    ended = λ after h. absurd (let z = value_not_at_end c within a.tree a.value d.stream.rest a.has in z after h);
   }
   answers_next (Err e) a b n =
       record { found = λ t v after h. absurd (no_refused_value e t v after h n); ended = λ after h. absurd (no_refused_end e after h n) }
@@ -99,22 +99,23 @@ module _ (c d : Reading) (within : Within c) (sound : Grew c.stream.faults d.str
     no_skip_at_end : (e : DecodeError X) (after : List ℕ) → EndsBefore c after → RefusesSkip cause_of step c f e g d → ⊥
     no_skip_at_end e after h (skipping.RefusesSkip.by_content calls called were r) = no_refused_end e after h r
     no_skip_at_end e after h (skipping.RefusesSkip.by_closure calls k q x called r were j) =
-        (let u = were.usable (not_nothing calls k) in u.1.none after h)
+        (let u = were.usable (not_nothing calls k) in u.1 after h)
     no_skip_at_end e after h (skipping.RefusesSkip.by_memory calls k called were b l j) =
-        (let u = were.usable (not_nothing calls k) in u.1.none after h)
+        (let u = were.usable (not_nothing calls k) in u.1 after h)
 
-    pub skipped_exactly : {T : Type 0} (r : Result (Option T) (DecodeError X)) → SkippedBy cause_of step c f r g d → AnswersSkip step c f r d
+    pub skipped_exactly : {T : Type 0} (r : Result (Option T) (DecodeError X)) → NextBy any (λ i _ j. SkipsValue step i f g j)
+        (λ i e j. RefusesSkip cause_of step i f e g j) c r d → AnswersSkip step c f r d
     skipped_exactly (Ok None) s = record {
-      found = λ t w after h m. absurd (let z = value_not_at_end c within t w after h in z.none d.stream.rest s.next.none.missing.0);
+      found = λ t w after h m. absurd (let z = value_not_at_end c within t w after h in z d.stream.rest s.none.missing.0);
       ended = λ after h. refl;
     }
     skipped_exactly (Ok (Some x)) s = record {
-      found = λ t w after h m. (refl, (let p = s.next.value.passes in let y = value_once c p.tree t p.value w d.stream.rest after p.has h in y.rest));
-      ended = λ after h. absurd (let p = s.next.value.passes in let z = value_not_at_end c within p.tree p.value d.stream.rest p.has in z.none after h);
+      found = λ t w after h m. (refl, (let p = s.value.passes in let y = value_once c p.tree t p.value w d.stream.rest after p.has h in y.rest));
+      ended = λ after h. absurd (let p = s.value.passes in let z = value_not_at_end c within p.tree p.value d.stream.rest p.has in z after h);
     }
     skipped_exactly (Err e) s = record {
-      found = λ t w after h m. absurd (no_refused_skip e t w after h m.0 m.1 s.next.refused);
-      ended = λ after h. absurd (no_skip_at_end e after h s.next.refused);
+      found = λ t w after h m. absurd (no_refused_skip e t w after h m.0 m.1 s.refused);
+      ended = λ after h. absurd (no_skip_at_end e after h s.refused);
     }
 
     pub value_exactly : {T : Type 0} (r : Result T (DecodeError X)) → SkippedValueBy step c f r g d → (t : Tree) (w after : List ℕ)
@@ -122,7 +123,7 @@ module _ (c d : Reading) (within : Within c) (sound : Grew c.stream.faults d.str
     value_exactly (Ok x) s t w after h m =
         (let y = value_once c s.value.passes.tree t s.value.passes.value w d.stream.rest after s.value.passes.has h in y.rest)
     value_exactly (Err e) s t w after h m = absurd (elim s.refused [
-      | inl n ↦ (let z = value_not_at_end c within t w after h in z.none d.stream.rest n.0.missing.0)
+      | inl n ↦ (let z = value_not_at_end c within t w after h in z d.stream.rest n.0.missing.0)
       | inr n ↦ no_refused_skip e t w after h m.0 m.1 n.1
     ])
 
@@ -132,7 +133,7 @@ module _ (c d : Reading) (within : Within c) (sound : Grew c.stream.faults d.str
     capture_found : (r : Result (Option Kept) (DecodeError X)) → CapturesNext c r d → (t : Tree) (v after : List ℕ) → HasValue c t v after → FoundMemory r
         → IsOkAnd r (λ o. IsSomeAnd o (λ k. k.octets ≡ v))
     capture_found (Ok (Some k)) h t v after z m = (let s = value_once c h.value.tree t k.octets v d.stream.rest after h.value.has z in s.front)
-    capture_found (Ok None) h t v after z m = absurd ((value_not_at_end c within t v after z).none d.stream.rest h.none.missing.0)
+    capture_found (Ok None) h t v after z m = absurd ((value_not_at_end c within t v after z) d.stream.rest h.none.missing.0)
     capture_found (Err e) h t v after z m = absurd (refuted h.refused)
       where
         refuted : Refuses cause_of any HasNoNext ((cause_of e ≡ of_memory) × HasValueOrDeep c) c e d → ⊥
@@ -144,17 +145,17 @@ module _ (c d : Reading) (within : Within c) (sound : Grew c.stream.faults d.str
     capture_ended : (r : Result (Option Kept) (DecodeError X)) → CapturesNext c r d → (after : List ℕ) → EndsBefore c after
         → IsOkAnd r (λ o. IsTrue (is_none o))
     capture_ended (Ok None) h after z = refl
-    capture_ended (Ok (Some k)) h after z = absurd ((value_not_at_end c within h.value.tree k.octets d.stream.rest h.value.has).none after z)
+    capture_ended (Ok (Some k)) h after z = absurd ((value_not_at_end c within h.value.tree k.octets d.stream.rest h.value.has) after z)
     capture_ended (Err e) h after z = absurd (refuted h.refused)
       where
         met : HasValueOrDeep c → ⊥
-        met (of_value t v x y) = (value_not_at_end c within t v x y).none after z
-        met (of_depth b) = b.some.none after z
+        met (of_value t v x y) = (value_not_at_end c within t v x y) after z
+        met (of_depth u s l) = s after z
 
         refuted : Refuses cause_of any HasNoNext ((cause_of e ≡ of_memory) × HasValueOrDeep c) c e d → ⊥
         refuted (failed x o) = failed_end c after z x
         refuted (source x y) = sound y
-        refuted (nothing n o) = n.some.none after z
+        refuted (nothing n o) = n.some after z
         refuted (otherwise n) = met n.1
 
     pub next_exactly : (r : Result (Option Kept) (DecodeError X)) → CapturesNext c r d → AnswersCapture c r

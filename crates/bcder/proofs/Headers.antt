@@ -11,7 +11,8 @@ use Rattle.bcder.specs.x690.Tree.{Tree, primitive, constructed, Trees}
 use Rattle.bcder.specs.x690.Encoding.{may_have, IsHeader, IsDefinite, IsFramed, IsEncoding, AreEncodings, Header}
 use Rattle.bcder.specs.steps.Reading.{class_of, is_marked, read_identifier, read_length, read_front, read_header, read_end}
 use Rattle.bcder.specs.steps.Peek.{HasOtherTag, HasNoHeader}
-use Rattle.bcder.specs.calls.Content.{Reading, Asked, tagged, IsAsked, HasHeader, HasMarker, HasOther, Falls, FitsOwed}
+use Rattle.bcder.specs.calls.Begins.{BeginsOther}
+use Rattle.bcder.specs.calls.Content.{Reading, Asked, tagged, IsAsked, HasHeader, HasMarker, Falls, FitsOwed}
 use Rattle.bcder.specs.laws.Identifiers.{read_identifier-identifier}
 use Rattle.bcder.specs.laws.Lengths.{read_length-tells, read_end-complete}
 use Rattle.bcder.specs.laws.Sound.{none_is, mapped, chained, passed, some_inj, identifier_sound, end_sound}
@@ -115,8 +116,8 @@ end_identified mode [] x e = absurd (none_is _ e)
 end_identified mode (suc b ∷ w) x e = absurd (none_is _ e)
 end_identified mode (zero ∷ w) x e = (w, refl)
 
-pub other_of : (t : Tag) (w : List ℕ) → AreOctets w → HasOtherTag (tagged t) w → HasOther t w
-other_of t w o h = let i = identifier_sound w h.0 h.1 h.2 o h.3 in record { tag = h.0; form = h.1; after = h.2; is_tag = i.fits; differs = h.4; rest = i.is }
+pub other_of : (t : Tag) (w : List ℕ) → AreOctets w → HasOtherTag (tagged t) w → BeginsOther t w
+other_of t w o h = let i = identifier_sound w h.0 h.1 h.2 o h.3 in (h.0, h.1, h.2, i.fits, h.4, i.is)
 
 -- ---- what does not stand in front
 
@@ -173,24 +174,24 @@ no_marker_empty mode w after e m = omega (arith, ap length e, ap length m.rest, 
 pub header_no_marker : (asked : Asked) (c : Reading) (after x : List ℕ) → HasHeader asked c after → HasMarker c.mode c.stream.rest x → ⊥
 header_no_marker asked c after x d m = no_header_unread asked c after (end_no_header c.mode c.stream.rest x (end_of_marker c.mode c.stream.rest x m)) d
 
-identified_of : (t : Tag) (w : List ℕ) (o : HasOther t w) → read_identifier w ≡ Some (o.tag, o.form, o.after)
-identified_of t w o = ap read_identifier o.rest ∙ read_identifier-identifier o.tag o.form o.after o.is_tag
+identified_of : (t : Tag) (w : List ℕ) (o : BeginsOther t w) → read_identifier w ≡ Some (o.0, o.1, o.2)
+identified_of t w o = ap read_identifier o.5 ∙ read_identifier-identifier o.0 o.1 o.2 o.3
 
 tag_inj : (a b : Tag) (f g : Bool) (x y : List ℕ) → ◌≡◌ {A = Option (Tag × Bool × List ℕ)} (Some (a, f, x)) (Some (b, g, y)) → a ≡ b
 tag_inj a b f g x y e = let p : ◌≡◌ {A = Tag × Bool × List ℕ} (a, f, x) (b, g, y) = cc in ap (λ q. q.0) p
 
-pub no_other_front : (mode : Mode) (t : Tag) (w : List ℕ) (h : Header) (x : List ℕ) → read_front mode w ≡ Some (h, x) → h.tag ≡ t → HasOther t w → ⊥
+pub no_other_front : (mode : Mode) (t : Tag) (w : List ℕ) (h : Header) (x : List ℕ) → read_front mode w ≡ Some (h, x) → h.tag ≡ t → BeginsOther t w → ⊥
 no_other_front mode t w h x e s o =
     let p = parts mode w h x e in
-    o.differs (tag_inj o.tag h.tag o.form h.form o.after p.after (sym (identified_of t w o) ∙ p.identified) ∙ s)
+    o.4 (tag_inj o.0 h.tag o.1 h.form o.2 p.after (sym (identified_of t w o) ∙ p.identified) ∙ s)
 
-pub no_other_end : (mode : Mode) (t : Tag) (w x : List ℕ) → read_end mode w ≡ Some x → end_of_contents ≡ t → HasOther t w → ⊥
+pub no_other_end : (mode : Mode) (t : Tag) (w x : List ℕ) → read_end mode w ≡ Some x → end_of_contents ≡ t → BeginsOther t w → ⊥
 no_other_end mode t w x e s o =
     let i = end_identified mode w x e in
-    o.differs (tag_inj o.tag end_of_contents o.form false o.after i.0 (sym (identified_of t w o) ∙ i.1) ∙ s)
+    o.4 (tag_inj o.0 end_of_contents o.1 false o.2 i.0 (sym (identified_of t w o) ∙ i.1) ∙ s)
 
-pub no_other_unread : (mode : Mode) (t : Tag) (w : List ℕ) → HasNoHeader mode (tagged t) w → HasOther t w → ⊥
-no_other_unread mode t w n o = n.2 (o.tag, o.form, o.after, identified_of t w o, o.differs)
+pub no_other_unread : (mode : Mode) (t : Tag) (w : List ℕ) → HasNoHeader mode (tagged t) w → BeginsOther t w → ⊥
+no_other_unread mode t w n o = n.2 (o.0, o.1, o.2, identified_of t w o, o.4)
 
 -- ---- an encoding behind a header
 

@@ -18,7 +18,8 @@ use Rattle.bcder.specs.x690.Encoding.{may_have, IsHeader, IsEncoding, AreEncodin
 use Rattle.bcder.specs.calls.Stream.{Layer, Stream, IsSound, cut, past, limited}
 use Rattle.bcder.specs.declared.decode.error.ContentError.{ContentError}
 use Rattle.bcder.specs.calls.Cause.{Cause}
-use Rattle.bcder.specs.calls.Content.{Reading, ContentForm, values, Octets, DefiniteValues, IndefiniteValues, label, Moves}
+use Rattle.bcder.specs.declared.decode.content.Kind.TheVariants as kind
+use Rattle.bcder.specs.calls.Content.{Reading, ContentForm, values, Octets, label, Moves}
 use Rattle.bcder.specs.calls.Content.{MovesBy, Whole, Falls, Closes, IsDone, IsUsedUp, Advances, FitsOwed}
 use Rattle.bcder.specs.calls.Calls.{IsFormOf, ContentOf, AnswersDone, RanOver, TakesContent, popped}
 use Rattle.bcder.specs.steps.Inside.{kind_behind, limit_inside, limit_outside, IsTaken}
@@ -120,7 +121,7 @@ pub closed_whole : (m : Mode) (i j : Reading) (p : List ℕ) (w : Whole m i p j)
 closed_whole m i j p w o (inl e) n = absurd (let x : Open ≡ Ended = sym o ∙ sym e.1 ∙ n in cc)
 closed_whole m i j p w o (inr e) n = (w.split, e.0)
 
-pub open_whole : (m : Mode) (i j : Reading) (p : List ℕ) (w : Whole m i p j) → (i.kind ≡ IndefiniteValues → ⊥) → Closes m i w.close j → AreEncodings m w.trees p
+pub open_whole : (m : Mode) (i j : Reading) (p : List ℕ) (w : Whole m i p j) → (i.kind ≡ values kind.Indefinite → ⊥) → Closes m i w.close j → AreEncodings m w.trees p
 open_whole m i j p w o (inl e) = (let x : p ≡ w.values = w.split ∙ ap (λ x. w.values ++ x) e.0 ∙ append-nil w.values in rw x w.encodes)
 open_whole m i j p w o (inr e) = absurd (o e.1)
 
@@ -129,7 +130,7 @@ used_up K j e (inl d) n = absurd (n d)
 used_up K j e (inr d) n = subst (λ k. IsUsedUp k j.owed j.stream.rest) e d.1
 
 -- content of another form never ends by a marker
-pub not_ended : (i j : Reading) (m : MovesBy i j) → i.state ≡ Open → (i.kind ≡ IndefiniteValues → ⊥) → j.state ≡ Ended → ⊥
+pub not_ended : (i j : Reading) (m : MovesBy i j) → i.state ≡ Open → (i.kind ≡ values kind.Indefinite → ⊥) → j.state ≡ Ended → ⊥
 not_ended i j m o k e = elim (m.ends e) [ inl x ↦ open_not_ended i.state o x | inr x ↦ k x ]
 
 -- nothing is owed, so all was passed
@@ -141,15 +142,15 @@ pub is_open_or : (j : Reading) → IsDone j → j.state ≢ Failed
 is_open_or j (inl e) f = (let x : Ended ≡ Failed = sym e ∙ f in cc)
 is_open_or j (inr e) f = open_not_failed j.state e.0 f
 
-pub ended_of : (j : Reading) → j.kind ≡ IndefiniteValues → IsDone j → j.state ≡ Ended
+pub ended_of : (j : Reading) → j.kind ≡ values kind.Indefinite → IsDone j → j.state ≡ Ended
 ended_of j k (inl e) = e
 ended_of j k (inr e) = absurd (subst (λ x. IsUsedUp x j.owed j.stream.rest) k e.1)
 
-octets_not_indefinite : (k : ContentForm) → k ≡ Octets → k ≡ IndefiniteValues → ⊥
-octets_not_indefinite k e f = (let y : Octets ≡ IndefiniteValues = sym e ∙ f in cc)
+octets_not_indefinite : (k : ContentForm) → k ≡ Octets → k ≡ values kind.Indefinite → ⊥
+octets_not_indefinite k e f = (let y : Octets ≡ values kind.Indefinite = sym e ∙ f in cc)
 
-definite_not_indefinite : (k : ContentForm) → k ≡ DefiniteValues → k ≡ IndefiniteValues → ⊥
-definite_not_indefinite k e f = (let y : DefiniteValues ≡ IndefiniteValues = sym e ∙ f in cc)
+definite_not_indefinite : (k : ContentForm) → k ≡ values kind.Definite → k ≡ values kind.Indefinite → ⊥
+definite_not_indefinite k e f = (let y : values kind.Definite ≡ values kind.Indefinite = sym e ∙ f in cc)
 
 -- content of a definite length that is done is taken
 pub octets_taken : (i j : Reading) → Moves i j → i.state ≡ Open → i.kind ≡ Octets → IsDone j → j.owed ≡ Some 0
@@ -158,7 +159,7 @@ octets_taken i j m o k q = used_up Octets j (m.kind ∙ k) q (not_ended i j m o 
 
 pub all_taken : (len : Length) (i j : Reading) → Moves i j → i.state ≡ Open → i.kind ≡ values (kind_behind len) → IsDone j → IsTaken len j.owed
 unfolding Moves
-all_taken (Definite n) i j m o k q = used_up DefiniteValues j (m.kind ∙ k) q (not_ended i j m o (definite_not_indefinite i.kind k))
+all_taken (Definite n) i j m o k q = used_up (values kind.Definite) j (m.kind ∙ k) q (not_ended i j m o (definite_not_indefinite i.kind k))
 all_taken Indefinite i j m o k q = tt
 
 AreOctets-front : (u w v : List ℕ) → w ≡ u ++ v → AreOctets w → AreOctets u
@@ -188,10 +189,10 @@ module _ (md : Mode) (t : Tag) (f : Bool) (len : Length) (octets : List ℕ) (i 
       (subst (λ z. IsHeader (label md j.marked) t z len octets) g (header_label md j.marked t f len octets h)) in
       (primitive t m.passed, (AreOctets-front m.passed i.stream.rest j.stream.rest m.rest a, record { header = octets; is_header = d; is = refl }))
 
-  pub encodes_definite : (n : ℕ) → len ≡ Definite n → f ≡ true → i.kind ≡ DefiniteValues → i.owed ≡ Some n → Encodes md j octets m.passed
+  pub encodes_definite : (n : ℕ) → len ≡ Definite n → f ≡ true → i.kind ≡ values kind.Definite → i.owed ≡ Some n → Encodes md j octets m.passed
   encodes_definite n e g k o =
-      let w : Whole (label md j.marked) i m.passed j = whole_here (λ x. let y : DefiniteValues ≡ Octets = sym k ∙ x in cc) in
-      let l : length m.passed ≡ n = all_passed n i j m o (used_up DefiniteValues j (m.kind ∙ k) q (not_ended i j m s (definite_not_indefinite i.kind k))) in
+      let w : Whole (label md j.marked) i m.passed j = whole_here (λ x. let y : values kind.Definite ≡ Octets = sym k ∙ x in cc) in
+      let l : length m.passed ≡ n = all_passed n i j m o (used_up (values kind.Definite) j (m.kind ∙ k) q (not_ended i j m s (definite_not_indefinite i.kind k))) in
       let d : IsHeader (label md j.marked) t true (Definite (length m.passed)) octets =
       subst (λ z. IsHeader (label md j.marked) t true z octets) (e ∙ ap (λ z. Definite z) (sym l))
       (subst (λ z. IsHeader (label md j.marked) t z len octets) g (header_label md j.marked t f len octets h)) in (
@@ -203,9 +204,9 @@ module _ (md : Mode) (t : Tag) (f : Bool) (len : Length) (octets : List ℕ) (i 
         ),
       )
 
-  pub encodes_indefinite : len ≡ Indefinite → i.kind ≡ IndefiniteValues → Encodes md j octets m.passed
+  pub encodes_indefinite : len ≡ Indefinite → i.kind ≡ values kind.Indefinite → Encodes md j octets m.passed
   encodes_indefinite e k =
-      let w : Whole (label md j.marked) i m.passed j = whole_here (λ x. let y : IndefiniteValues ≡ Octets = sym k ∙ x in cc) in
+      let w : Whole (label md j.marked) i m.passed j = whole_here (λ x. let y : values kind.Indefinite ≡ Octets = sym k ∙ x in cc) in
       let z : (m.passed ≡ w.values ++ w.close) × IsEndOfContents (label md j.marked) w.close =
       closed_whole (label md j.marked) i j m.passed w s w.closes (ended_of j (m.kind ∙ k) q) in
       let g : f ≡ true = no_indefinite md f (subst (λ x. may_have md f x ≡ true) e h.allowed) in
@@ -263,7 +264,7 @@ module _ {C T E : Type 0} (why : E → Cause ContentError) (view : C → Reading
     }
 
     pub takes_indefinite : h.len ≡ Indefinite
-        → (ran : RanOver why view post c.stream c.owed IndefiniteValues c.mode h.tag r mark d.stream d.owed)
+        → (ran : RanOver why view post c.stream c.owed (values kind.Indefinite) c.mode h.tag r mark d.stream d.owed)
         → ((octets : List ℕ) → IsHeader c.mode h.tag h.form h.len octets → (mv : MovesBy ran.handed ran.left) → IsDone ran.left
         → Encodes c.mode ran.left octets mv.passed)
         → TakesContent why view post c h r d
@@ -319,15 +320,15 @@ module _ {C T E : Type 0} (why : E → Cause ContentError) (view : C → Reading
           (subst (λ z. AreOctets z.rest) (sym q.runs.stream) ((limited_sound (Some n) (stream l0.source) so).octets)))
 
       pub takes_values : h.form ≡ true
-          → RanOver why view post (limited_stream stream l1) l1.limit DefiniteValues c.mode h.tag r mark (limited_stream stream l2) l2.limit
+          → RanOver why view post (limited_stream stream l1) l1.limit (values kind.Definite) c.mode h.tag r mark (limited_stream stream l2) l2.limit
           → TakesContent why view post c h r d
       takes_values g ran =
-          let q = ran_at DefiniteValues ran in
-          takes_definite DefiniteValues n (stream l0.source) (stream l2.source) l0.limit l2.limit hn
-          (subst (λ z. IsFormOf z (Definite n) DefiniteValues) (sym g) refl) cs co stream_is (do' ∙ limit_is) (subst (λ z. FitsOwed z l0.limit) hn fits) q
+          let q = ran_at (values kind.Definite) ran in
+          takes_definite (values kind.Definite) n (stream l0.source) (stream l2.source) l0.limit l2.limit hn
+          (subst (λ z. IsFormOf z (Definite n) (values kind.Definite)) (sym g) refl) cs co stream_is (do' ∙ limit_is) (subst (λ z. FitsOwed z l0.limit) hn fits) q
           (λ octets e mv w. encodes_definite c.mode h.tag h.form h.len octets q.handed q.left e q.runs.state q.runs.mode mv w n hn g q.runs.kind q.runs.owed)
 
-    pub takes_marked : h.len ≡ Indefinite → RanOver why view post c.stream c.owed IndefiniteValues c.mode h.tag r mark d.stream d.owed
+    pub takes_marked : h.len ≡ Indefinite → RanOver why view post c.stream c.owed (values kind.Indefinite) c.mode h.tag r mark d.stream d.owed
         → TakesContent why view post c h r d
     takes_marked hn ran = takes_indefinite hn ran
         (λ octets e mv w. encodes_indefinite c.mode h.tag h.form h.len octets ran.handed ran.left e ran.runs.state ran.runs.mode mv w hn ran.runs.kind)
@@ -347,10 +348,10 @@ module _ {C T E : Type 0} (why : E → Cause ContentError) (view : C → Reading
         let t : limited_stream stream l2 ≡ d.stream =
         ap (λ z. limited l2.limit (stream z)) (sym b3) ∙ ap (λ z. limited z (stream l3.source)) (j ∙ do') ∙ sym ds in
         takes_marked e
-        (subst (λ z. RanOver why view post c.stream c.owed IndefiniteValues c.mode h.tag r mark z d.owed) t
-        (subst (λ z. RanOver why view post c.stream c.owed IndefiniteValues c.mode h.tag r mark (limited_stream stream l2) z) j
-        (subst (λ z. RanOver why view post z c.owed IndefiniteValues c.mode h.tag r mark (limited_stream stream l2) l2.limit) s
-        (subst (λ z. RanOver why view post (limited_stream stream l1) z IndefiniteValues c.mode h.tag r mark (limited_stream stream l2) l2.limit) i ran))))
+        (subst (λ z. RanOver why view post c.stream c.owed (values kind.Indefinite) c.mode h.tag r mark z d.owed) t
+        (subst (λ z. RanOver why view post c.stream c.owed (values kind.Indefinite) c.mode h.tag r mark (limited_stream stream l2) z) j
+        (subst (λ z. RanOver why view post z c.owed (values kind.Indefinite) c.mode h.tag r mark (limited_stream stream l2) l2.limit) s
+        (subst (λ z. RanOver why view post (limited_stream stream l1) z (values kind.Indefinite) c.mode h.tag r mark (limited_stream stream l2) l2.limit) i ran))))
 
 -- ---- what holds at any tag
 

@@ -5,7 +5,7 @@ use Rattle.std.specs.Iterator.{Yields}
 use Rattle.bcder.specs.declared.encode.error.EncodeError.{EncodeError}
 use Rattle.bcder.specs.declared.mode.Mode.{Mode}
 use Rattle.bcder.specs.x690.Tree.{Trees, no_trees, ◌∷ₜ◌, ◌+++◌}
-use Rattle.bcder.specs.calls.Meaning.{Encoded, Meaning, encoded_octets}
+use Rattle.bcder.specs.calls.Meaning.{Encoded, Meaning}
 use Rattle.bcder.specs.calls.Encoders.{TellsSize, TellsSum}
 use Rattle.bcder.specs.calls.Joined.{nothing, join, EachOf, IsSum}
 use Rattle.bcder.specs.calls.Iterated.{MeanSame, AlwaysGives}
@@ -38,7 +38,7 @@ module _ {A : Type 0} (M : A → Meaning → Type 0) where
   each_refused [] x z e h m = inl m
   each_refused (y ∷ ys) x z e (p, q, my, each, eq) m = inr (p, my, each_refused ys x q e each m)
 
-  pub seen_next : {xs : List A} {old new : Option ℕ} (x : A) (len : ℕ) → SumSeen M xs old → TellsSize encoded_octets (M x) ⊥ (Ok len)
+  pub seen_next : {xs : List A} {old new : Option ℕ} (x : A) (len : ℕ) → SumSeen M xs old → TellsSize (λ (e : Encoded). e.octets) (M x) ⊥ (Ok len)
       → ((k : ℕ) → IsSum old k → IsSum new (k + len)) → SumSeen M (xs ++ x ∷ []) new
   seen_next {xs} {old} {new} x len s (a, m, is) adds = record {
     seen = join s.seen a;

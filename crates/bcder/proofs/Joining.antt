@@ -3,7 +3,7 @@ use Rattle.std.proofs.Common.{◌≡◌, ℕ, ◌+◌, ◌<◌, ◌≤◌, ◌^�
 use Rattle.std.proofs.Common.{Err, refl, sym, ap, ◌∙◌, subst, inl, inr, arith, length-append}
 use Rattle.std.specs.Option.{SomeIff}
 use Rattle.bcder.specs.declared.encode.error.EncodeError.{EncodeError}
-use Rattle.bcder.specs.calls.Meaning.{Encoded, Meaning, encoded_octets}
+use Rattle.bcder.specs.calls.Meaning.{Encoded, Meaning}
 use Rattle.std.proofs.Common.{IsErr, IsErrAnd, drop_of_length-le, drop, get_or, suc, add-one, drop-cons, append_assoc, append-nil}
 use Rattle.std.specs.Io.KnownBytes.{Appends}
 use Rattle.std.proofs.KnownBytes.{Appends-trans, Appends-nil}
@@ -29,7 +29,7 @@ pub record WrittenSoFar (M rest : Meaning → Type 0) (old new : Option (List �
   pub splits : (e : Encoded) → M (Ok e) → (front : List ℕ) × (z : Encoded) × rest (Ok z) × (e.octets ≡ front ++ z.octets) × Appends old new front
 
 -- a part and those after it
-pub sum_with : (M N : Meaning → Type 0) (n k : ℕ) (o r : Option ℕ) → TellsSize encoded_octets M ⊥ (Ok n) → TellsSum N ⊥ (Ok o) → o ≡ Some k
+pub sum_with : (M N : Meaning → Type 0) (n k : ℕ) (o r : Option ℕ) → TellsSize (λ (e : Encoded). e.octets) M ⊥ (Ok n) → TellsSum N ⊥ (Ok o) → o ≡ Some k
     → SomeIff r (n + k < 2 ^ 64) (n + k) → TellsSum (Then M N) ⊥ (Ok r)
 sum_with M N n k None r p q e s = cc
 sum_with M N n k (Some j) (Some r) (x, m, a) (y, d, b) e s =
@@ -41,7 +41,7 @@ sum_with M N n k (Some j) None (x, m, a) (y, d, b) e s =
     (join x y, (x, y, m, d, refl), omega (arith, length-append x.octets y.octets))
 
 -- a part and too many after it
-pub sum_over : (M N : Meaning → Type 0) (n : ℕ) (o : Option ℕ) → TellsSize encoded_octets M ⊥ (Ok n) → TellsSum N ⊥ (Ok o) → o ≡ None
+pub sum_over : (M N : Meaning → Type 0) (n : ℕ) (o : Option ℕ) → TellsSize (λ (e : Encoded). e.octets) M ⊥ (Ok n) → TellsSum N ⊥ (Ok o) → o ≡ None
     → TellsSum (Then M N) ⊥ (Ok None)
 sum_over M N n (Some j) p q e = cc
 sum_over M N n None (x, m, a) (y, d, b) e = (join x y, (x, y, m, d, refl), omega (arith, length-append x.octets y.octets))
@@ -72,7 +72,7 @@ next_leads M N rest x a leads p (Ok z) h = subst (λ (e : Encoded). M (Ok e)) (s
 next_leads M N rest x a leads p (Err e) h = leads (Err e) (inr (a, p, h))
 
 pub so_far_next : {M : Meaning → Type 0} (N rest : Meaning → Type 0) {old new : Option ℕ} (len : ℕ) → SumSoFar M (Then N rest) old
-    → TellsSize encoded_octets N ⊥ (Ok len) → ((k : ℕ) → IsSum old k → IsSum new (k + len)) → SumSoFar M rest new
+    → TellsSize (λ (e : Encoded). e.octets) N ⊥ (Ok len) → ((k : ℕ) → IsSum old k → IsSum new (k + len)) → SumSoFar M rest new
 so_far_next {M} N rest {old} {new} len s (a, p, is) adds = record {
   seen = join s.seen a;
   leads = next_leads M N rest s.seen a s.leads p;
@@ -121,7 +121,7 @@ module _ {M : Meaning → Type 0} (N rest : Meaning → Type 0) {old mid new : O
       let wrote = w a p in
       let failed : WroteOf lacks a.octets mid new (Err e) = subst (λ x. WroteOf lacks a.octets mid new x) is wrote in
       let before : WroteOf ⊥ front old mid (Ok tt) = record { done = appends } in
-      same_octets (ap (λ l. front ++ l) (ap encoded_octets (sym joined)) ∙ sym whole) (follows_on before (stops b.octets failed))
+      same_octets (ap (λ l. front ++ l) (ap (λ (e : Encoded). e.octets) (sym joined)) ∙ sym whole) (follows_on before (stops b.octets failed))
 
 pub written_done : {M : Meaning → Type 0} {old new : Option (List ℕ)} → WrittenSoFar M NoValues old new → (lacks : Type 0) (x : Encoded) → M (Ok x)
     → WroteOf lacks x.octets old new (Ok tt)

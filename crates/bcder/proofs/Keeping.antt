@@ -12,12 +12,14 @@ use Rattle.bcder.specs.calls.Cause.{cause_of}
 use Rattle.bcder.specs.x690.Tree.{Trees, no_trees, ◌∷ₜ◌}
 use Rattle.bcder.specs.x690.Encoding.{IsEncoding, AreEncodings}
 use Rattle.bcder.specs.calls.Stream.{Stream, borrowed}
-use Rattle.bcder.specs.calls.Content.{Reading, label, Moves, Whole, Closes, UnboundedValues, IndefiniteValues, Octets}
-use Rattle.bcder.specs.calls.Decoding.{HandsAll, Decodes, RefusesDecode}
+use Rattle.bcder.specs.declared.decode.content.Kind.TheVariants as kind
+use Rattle.bcder.specs.calls.Content.{Reading, label, Moves, Whole, Closes, Octets, values}
+use Rattle.bcder.specs.calls.Decoding.{Decodes, RefusesDecode}
 use Rattle.bcder.specs.calls.Captured.{Kept, AreWhole, kept_stream, DecodesFront, RefusesKept, by_decode}
 use Rattle.bcder.specs.calls.Views.{of_constructed, lent}
 use Rattle.bcder.specs.laws.Complete.{two_octets, one_encoding}
 use Rattle.bcder.specs.laws.Canonical.{IsEncoding-in_ber, AreEncodings-in_ber}
+use Rattle.bcder.proofs.Decoding.{HandsAll}
 
 -- ---- lists of values
 
@@ -46,12 +48,12 @@ label_in_ber m true ts w h = h
 -- ---- what a closure left of kept values
 
 -- content whose end no marker tells was closed by none
-closed_by_none : (m : Mode) (i j : Reading) (e : List ℕ) → i.kind ≡ UnboundedValues → Closes m i e j → e ≡ []
+closed_by_none : (m : Mode) (i j : Reading) (e : List ℕ) → i.kind ≡ values kind.Unbounded → Closes m i e j → e ≡ []
 closed_by_none m i j e k (inl h) = h.0
-closed_by_none m i j e k (inr h) = absurd (let x : UnboundedValues ≡ IndefiniteValues = sym k ∙ h.1 in cc)
+closed_by_none m i j e k (inr h) = absurd (let x : values kind.Unbounded ≡ values kind.Indefinite = sym k ∙ h.1 in cc)
 
-unbounded_values : (i : Reading) → i.kind ≡ UnboundedValues → i.kind ≢ Octets
-unbounded_values i k e = (let x : UnboundedValues ≡ Octets = sym k ∙ e in cc)
+unbounded_values : (i : Reading) → i.kind ≡ values kind.Unbounded → i.kind ≢ Octets
+unbounded_values i k e = (let x : values kind.Unbounded ≡ Octets = sym k ∙ e in cc)
 
 -- the values whose octets were passed, and those that are left
 pub record Parts (mode : Mode) (w x : List ℕ) : Type 0 where
@@ -62,7 +64,7 @@ pub record Parts (mode : Mode) (w x : List ℕ) : Type 0 where
   pub front : AreEncodings mode passed octets
   pub back : AreEncodings mode left x
 
-parts_of : (m : Mode) (i j : Reading) (w x p : List ℕ) → i.kind ≡ UnboundedValues → AreWhole m w → w ≡ p ++ x → Whole (label m j.marked) i p j → Parts m w x
+parts_of : (m : Mode) (i j : Reading) (w x p : List ℕ) → i.kind ≡ values kind.Unbounded → AreWhole m w → w ≡ p ++ x → Whole (label m j.marked) i p j → Parts m w x
 parts_of m i j w x p k a e h =
     let n : p ≡ h.values = h.split ∙ ap (λ z. h.values ++ z) (closed_by_none _ i j h.close k h.closes) ∙ append-nil h.values in
     let b : AreEncodings Ber h.trees p = subst (λ z. AreEncodings Ber h.trees z) (sym n) (label_in_ber m j.marked h.trees h.values h.encodes) in
@@ -89,7 +91,7 @@ module _ {S T X : Type 0} (stream : S → Stream) (post : MutBor (Constructed (M
   decoded_parts : Decodes (of_constructed (lent stream)) post (borrowed name s) m x (borrowed name s') → Parts c.mode c.octets s'.rest
   decoded_parts h =
       let a : AreWhole m s.rest = rw (is_mode, here) whole in
-      let p : Parts m s.rest s'.rest = parts (borrowed name s) (borrowed name s') m h.handed h.left h.hands h.usable a in
+      let p : Parts m s.rest s'.rest = parts (borrowed name s) (borrowed name s') m h.handed h.left (record { over = h.over; leaves = h.leaves; moves = h.moves }) h.usable a in
       subst (λ w. Parts c.mode w s'.rest) (ap (λ (y : Stream). y.rest) here) (subst (λ n. Parts n s.rest s'.rest) is_mode p)
 
   -- what is left is whole

@@ -22,11 +22,11 @@ use Rattle.bcder.specs.steps.Growing.{AreOpen, grown}
 use Rattle.bcder.specs.steps.Reading.{read_header, read_end, read_contents, at_end, read_list, read_tree}
 use Rattle.bcder.specs.calls.Stream.{Layer, Stream, cut, past, limit_left}
 use Rattle.bcder.specs.calls.Content.{Reading, values, Octets, Falls, FitsOwed, ContentForm, HasMarker, of_octets}
-use Rattle.bcder.specs.calls.Content.{of_definite, of_indefinite, of_unbounded, EndsBefore, NotAtEnd}
+use Rattle.bcder.specs.calls.Content.{of_definite, of_indefinite, of_unbounded, EndsBefore}
 use Rattle.bcder.specs.x690.Length.{IsEndOfContents}
 use Rattle.bcder.specs.calls.Calls.{popped}
 use Rattle.bcder.specs.steps.Inside.{limit_inside}
-use Rattle.bcder.specs.calls.Skipping.{HeaderStands, HeadersStand}
+use Rattle.bcder.specs.calls.Skipping.{HeadersStand}
 use Rattle.bcder.specs.laws.Complete.{header_complete, header_size}
 use Rattle.bcder.specs.laws.Identifiers.{BeginsValue, BeginsValue-identifier}
 use Rattle.bcder.specs.laws.Lengths.{read_end-complete}
@@ -120,14 +120,14 @@ IsEndOf v w = (gap : List ℕ) × (w ≡ gap ++ v)
 later : (w b c : List ℕ) → IsEndOf b w → IsEndOf c b → IsEndOf c w
 later w b c g h = (g.0 ++ h.0, g.1 ∙ ap (λ l. g.0 ++ l) h.1 ∙ sym (append_assoc g.0 h.0 c))
 
-stand_push : (mode : Mode) (hs : List Heading) (h : Heading) (w v x : List ℕ) → HeadersStand mode hs w v → HeaderStands mode h v x
-    → HeadersStand mode (hs ++ h ∷ []) w x
-stand_push mode [] h w v x s k = (v, x, s, k, ([], refl))
-stand_push mode (g ∷ hs) h w v x s k = (s.0, s.1, s.2, s.3, stand_push mode hs h s.1 v x s.4 k)
+stand_push : (mode : Mode) (hs : List Heading) (h : Heading) (w v x : List ℕ) → HeadersStand mode hs w v
+    → (len : Length) (header : List ℕ) → IsHeader mode h.tag h.constructed len header → v ≡ header ++ x → HeadersStand mode (hs ++ h ∷ []) w x
+stand_push mode [] h w v x s len header i e = (len, s.0, header, x, i, s.1 ∙ ap (λ l. s.0 ++ l) e, ([], refl))
+stand_push mode (g ∷ hs) h w v x s len header i e = (s.0, s.1, s.2, s.3, s.4, s.5, stand_push mode hs h s.3 v x s.6 len header i e)
 
 stand_later : (mode : Mode) (hs : List Heading) (w b c : List ℕ) → HeadersStand mode hs w b → IsEndOf c b → HeadersStand mode hs w c
 stand_later mode [] w b c s e = later w b c s e
-stand_later mode (h ∷ hs) w b c s e = (s.0, s.1, s.2, s.3, stand_later mode hs s.1 b c s.4 e)
+stand_later mode (h ∷ hs) w b c s e = (s.0, s.1, s.2, s.3, s.4, s.5, stand_later mode hs s.3 b c s.6 e)
 
 pub calls_none : (mode : Mode) (s t : Stream) (o : Option ℕ) → t.rest ≡ s.rest → t.kept ≡ s.kept → PassesCalls mode s o [] t o
 calls_none mode s t o e k = record { passed = []; passes = passes_nothing s t e k; falls = Falls-refl o; twice = omega arith; stand = ([], ap (cut o) (sym e)) }
@@ -158,8 +158,7 @@ module _ (mode : Mode) (s : Stream) (o : Option ℕ) (calls : List Heading) (t v
     falls = more_falls;
     twice = (let y : 2 * length calls ≤ length c.passed = c.twice in let z : 2 ≤ length w = header_size mode h.tag h.form h.len w i in
         omega (arith, length-append c.passed w, length-append calls (heading h n ∷ [])));
-    stand = stand_push mode calls (heading h n) (cut o s.rest) (cut p t.rest) (cut q v.rest) c.stand
-        (record { len = h.len; header = w; is_header = i; is = more_cut });
+    stand = stand_push mode calls (heading h n) (cut o s.rest) (cut p t.rest) (cut q v.rest) c.stand h.len w i more_cut;
   }
 
 -- ---- a tree for the calls
@@ -532,7 +531,7 @@ broken mode h s o calls es t v p q r w u g f i = record {
 
 -- where no value stands in front of open content that is not at its end, nothing remains
 module _ (mode : Mode) (es : List Entry) (t : Stream) (p : Option ℕ) (c : Reading) (k : Kind) (ck : c.kind ≡ values k) (cs : c.state ≡ Open)
-    (cm : c.mode ≡ mode) (co : c.owed ≡ p) (cr : c.stream.rest ≡ cut p t.rest) (a : AreOctets (cut p t.rest)) (n : NoValue c) (e : NotAtEnd c) where
+    (cm : c.mode ≡ mode) (co : c.owed ≡ p) (cr : c.stream.rest ≡ cut p t.rest) (a : AreOctets (cut p t.rest)) (n : NoValue c) (e : (after : List ℕ) → EndsBefore c after → ⊥) where
   unread : (r : Option (Tree × List ℕ)) → read_tree mode (cut p t.rest) ≡ r → r ≡ None
   unread None z = refl
   unread (Some u) z = (let y = tree_sound mode (cut p t.rest) u a z in
@@ -547,7 +546,7 @@ module _ (mode : Mode) (es : List Entry) (t : Stream) (p : Option ℕ) (c : Read
   unmarked None i z = refl
   unmarked (Some x) i z =
       let y = end_sound mode (cut p t.rest) x a z in
-      absurd (e.none x (inr (
+      absurd (e x (inr (
         cs,
         of_indefinite (ck ∙ ap values i)
             (record { marker = y.marker; is_end = subst (λ m. IsEndOfContents m y.marker) (sym cm) y.is_end; rest = cr ∙ y.is }),
@@ -573,7 +572,7 @@ module _ (mode : Mode) (es : List Entry) (t : Stream) (p : Option ℕ) (c : Read
       go : (m : ℕ) → lack p t.rest ≡ m → ends mode (Definite b ∷ es) (cut p t.rest) m (past p t.rest).octets ≡ None
       go (suc m) l = too_few mode b es (cut p t.rest) (past p t.rest).octets m
       go zero l = next_nothing (Definite b) 0
-          (some_there (cut p t.rest) (λ z. e.none c.stream.rest (inr (cs, of_definite (ck ∙ ap values ti) (co ∙ used p li.0 refl l z)))))
+          (some_there (cut p t.rest) (λ z. e c.stream.rest (inr (cs, of_definite (ck ∙ ap values ti) (co ∙ used p li.0 refl l z)))))
 
 -- ---- the whole
 

@@ -9,7 +9,8 @@ use Rattle.bcder.specs.calls.Capturing.{EndsIn, EndsBy}
 use Rattle.bcder.specs.declared.decode.error.ContentError.{ContentError}
 use Rattle.bcder.specs.calls.Cause.{Cause, of_memory, is_memory_cause}
 use Rattle.bcder.specs.calls.Stream.{Grew}
-use Rattle.bcder.specs.calls.Content.{Reading, UnboundedValues}
+use Rattle.bcder.specs.declared.decode.content.Kind.TheVariants as kind
+use Rattle.bcder.specs.calls.Content.{Reading, values}
 use Rattle.bcder.specs.x690.Encoding.{AreEncodings}
 use Rattle.bcder.specs.x690.Tree.{Trees}
 use Rattle.bcder.specs.calls.Walking.{HasValues, ClosesBefore}
@@ -60,7 +61,7 @@ ends_by_two mode w front h none =
 abbrev pub AreValues : Mode → List ℕ → Type 0
 AreValues mode w = (ts : Trees) × AreEncodings mode ts w
 
-module _ (c : Reading) (mode : Mode) (w : List ℕ) (m : c.mode ≡ mode) (k : c.kind ≡ UnboundedValues) (r : c.stream.rest ≡ w) where
+module _ (c : Reading) (mode : Mode) (w : List ℕ) (m : c.mode ≡ mode) (k : c.kind ≡ values kind.Unbounded) (r : c.stream.rest ≡ w) where
   pub values_there : AreValues mode w → HasValues c
   values_there v = record {
     trees = v.0;

@@ -5,7 +5,8 @@ use Rattle.bcder.specs.declared.decode.content.State.TheVariants.{Open, Ended, F
 use Rattle.bcder.specs.x690.Length.{IsEndOfContents}
 use Rattle.bcder.specs.x690.Tree.{Tree, no_trees, ◌∷ₜ◌}
 use Rattle.bcder.specs.x690.Encoding.{IsEncoding}
-use Rattle.bcder.specs.calls.Content.{Reading, Octets, IndefiniteValues, label, Moves, Advances}
+use Rattle.bcder.specs.declared.decode.content.Kind.TheVariants as kind
+use Rattle.bcder.specs.calls.Content.{Reading, Octets, label, Moves, Advances, values}
 use Rattle.bcder.specs.laws.Lists.{AreEncodings-one}
 use Rattle.bcder.specs.laws.Moved.{whole_marked, whole_none, Falls-refl, Falls-trans, untouched_is_moved, moved_twice_is_moved}
 
@@ -61,7 +62,7 @@ moves_failed c d p a g n f = record {
 }
 
 -- the marker ends indefinite content
-pub moves_marker : (c d : Reading) (e : List ℕ) → Advances c d e → IsEndOfContents c.mode e → d.marked ≡ c.marked → c.kind ≡ IndefiniteValues → c.state ≡ Open
+pub moves_marker : (c d : Reading) (e : List ℕ) → Advances c d e → IsEndOfContents c.mode e → d.marked ≡ c.marked → c.kind ≡ values kind.Indefinite → c.state ≡ Open
     → d.state ≡ Ended → Moves c d
 unfolding Moves
 moves_marker c d e a t g i s f = record {

@@ -8,12 +8,12 @@ use Rattle.bcder.specs.steps.Enclosing.{TakesContents}
 use Rattle.bcder.specs.declared.encode.sizes.Sizes.{Sizes}
 use Rattle.bcder.specs.declared.mode.Mode.{Mode}
 use Rattle.bcder.specs.declared.mode.Mode.TheVariants.{Ber, Cer, Der}
-use Rattle.bcder.specs.calls.Meaning.{Encoded, Meaning, IsOne, encoded_octets}
+use Rattle.bcder.specs.calls.Meaning.{Encoded, Meaning, IsOne}
 use Rattle.bcder.specs.calls.Noted.{noted, ReadsNone, Reads, ReadsThen, ReadsEach, HasSize, ReadsInside, ReadsContents, MayRead, HasRead, Notes}
 use Rattle.bcder.proofs.Writing.{same_ok}
 
 pub one_size : {M : Meaning → Type 0} (one : IsOne M) (n : ℕ) (a : Encoded) → M (Ok a) → n ≡ length a.octets → HasSize M n
-one_size one n a m is = λ e p. is ∙ ap (λ x. length (encoded_octets x)) (same_ok _ one.same a e m p)
+one_size one n a m is = λ e p. is ∙ ap (λ (x : Encoded). length x.octets) (same_ok _ one.same a e m p)
 
 -- ---- nothing
 

@@ -10,7 +10,7 @@ use Rattle.bcder.specs.x690.Encoding.{Header, IsEncoding}
 use Rattle.bcder.specs.x690.Tree.{Tree}
 use Rattle.bcder.specs.x690.Grammar.{IsOnly}
 use Rattle.bcder.specs.calls.Content.{any, Reading, Octets, Advances, Moves, Resembles, IsAtEnd, of_octets, of_definite}
-use Rattle.bcder.specs.calls.Content.{of_indefinite, of_unbounded, EndsBefore, NotAtEnd}
+use Rattle.bcder.specs.calls.Content.{of_indefinite, of_unbounded, EndsBefore}
 use Rattle.bcder.specs.calls.Walking.{HasNoNext, PassesValue}
 use Rattle.bcder.specs.calls.Takes.{NextBy}
 use Rattle.bcder.specs.steps.Reading.{read_identifier, read_header}
@@ -66,8 +66,8 @@ resembles_sym c d s = record {
 pub looked_ends : (c d : Reading) (after : List ℕ) → Resembles c d → EndsBefore d after → EndsBefore c after
 looked_ends c d after s e = ends_alike c d (looked_alike c d s) after e
 
-pub looked_open : (c d : Reading) → Resembles c d → NotAtEnd d → NotAtEnd c
-looked_open c d s n = record { none = λ after e. n.none after (looked_ends d c after (resembles_sym c d s) e) }
+pub looked_open : (c d : Reading) → Resembles c d → ((after : List ℕ) → EndsBefore d after → ⊥) → (after : List ℕ) → EndsBefore c after → ⊥
+looked_open c d s n = λ after e. n after (looked_ends d c after (resembles_sym c d s) e)
 
 looked_nothing : (c d : Reading) → Resembles c d → HasNoNext d → HasNoNext c
 looked_nothing c d s n = record {
@@ -134,8 +134,8 @@ no_empty_header : (m : Mode) (h : Header) (x : List ℕ) → read_header m [] �
 no_empty_header m h x e = none_is _ (sym (empty_unread m) ∙ e)
 
 header_goes_on : (c : Reading) → Within c → c.state ≡ Open → c.kind ≢ Octets → (h : Header) (x : List ℕ)
-    → read_header c.mode c.stream.rest ≡ Some (h, x) → NotAtEnd c
-header_goes_on c w o k h x r = record { none = λ after e. elim e [ inl y ↦ open_not_ended c.state o y | inr y ↦ at_end after y.1 ] }
+    → read_header c.mode c.stream.rest ≡ Some (h, x) → (after : List ℕ) → EndsBefore c after → ⊥
+header_goes_on c w o k h x r = λ after e. elim e [ inl y ↦ open_not_ended c.state o y | inr y ↦ at_end after y.1 ]
   where
     some : c.stream.rest ≡ [] → ⊥
     some e = no_empty_header c.mode h x (subst (λ z. read_header c.mode z ≡ Some (h, x)) e r)

@@ -1,8 +1,8 @@
 -- Readers of contents octets that did not come, or were refused.
-use Rattle.std.proofs.Common.{◌≡◌, ℕ, List, length, Err}
+use Rattle.std.proofs.Common.{◌≡◌, ℕ, List, length, Some, Err}
 use Rattle.bcder.specs.declared.decode.error.DecodeError.{DecodeError}
 use Rattle.bcder.specs.calls.Content.{Reading}
-use Rattle.bcder.specs.calls.Readers.{HasAll, AreNeverRefused, RefusesReading, Reads}
+use Rattle.bcder.specs.calls.Readers.{AreNeverRefused, RefusesReading, Reads}
 
 as_refused : {X : Type 0} (Refuses : List ℕ → DecodeError X → Type 0) (c d : Reading) (e : DecodeError X) → RefusesReading AreNeverRefused c e d
     → RefusesReading Refuses c e d
@@ -27,7 +27,7 @@ refuses_missing Means Refuses c d e f r o m k = record {
 }
 
 pub refuses_octets : {T X : Type 0} (Means : List ℕ → T → Type 0) (Refuses : List ℕ → DecodeError X → Type 0) (c d : Reading) (e : DecodeError X)
-    → HasAll (length c.stream.rest) c → Refuses c.stream.rest e → d.stream.faults ≡ c.stream.faults → d.stream.rest ≡ c.stream.rest → d.owed ≡ c.owed
+    → c.owed ≡ Some (length c.stream.rest) → Refuses c.stream.rest e → d.stream.faults ≡ c.stream.faults → d.stream.rest ≡ c.stream.rest → d.owed ≡ c.owed
     → d.mode ≡ c.mode → d.marked ≡ c.marked → Reads Means Refuses c (Err e) d
 refuses_octets Means Refuses c d e a f n r o m k = record {
   value = tt;

@@ -1,5 +1,5 @@
 -- A restricted string that was written is taken back.
-use Rattle.std.proofs.Common.{List, ℕ, Option, Some, None, ap, sym, ◌∙◌, subst, inl, inr}
+use Rattle.std.proofs.Common.{◌≡◌, List, ℕ, Option, Some, None, ap, sym, ◌∙◌, subst, inl, inr}
 use Rattle.std.specs.Prelude.{Result, Ok, Err}
 use Rattle.bcder.specs.declared.mode.Mode.{Mode}
 use Rattle.bcder.specs.declared.decode.error.DecodeError.{DecodeError}
@@ -14,7 +14,8 @@ use Rattle.bcder.specs.calls.RestrictedString.{MeansRestricted}
 use Rattle.bcder.specs.calls.Meaning.{Encoded}
 use Rattle.bcder.specs.calls.StringMeaning.{StringMeans}
 use Rattle.bcder.specs.calls.TakenBack.{StandsIn}
-use Rattle.bcder.specs.calls.Valued.{HasTagged, TakesTree, WantsMemoryFor, of_value, of_header, RefusesTree}
+use Rattle.bcder.specs.calls.Walking.{HasValue}
+use Rattle.bcder.specs.calls.Valued.{tag_of, TakesTree, WantsMemoryFor, of_value, of_header, RefusesTree}
 use Rattle.bcder.specs.calls.Valued.{TakesNextTree, TakesOneTree}
 use Rattle.bcder.specs.calls.WrittenStrings.{IsWrittenString}
 use Rattle.bcder.specs.calls.WrittenRestricted.{IsTakenRestricted, WrittenAsReadOf, OneRestricted}
@@ -28,7 +29,7 @@ use Rattle.bcder.proofs.StringsBack.{string_taken, written_as_read}
 module _ (step : Step) (X : Type 0) (t : Tag) (mode : Mode) (w : List ℕ) (e : Encoded) (accepted : IsOfSet step w) (written : IsWrittenString t mode w e)
     (c : Reading) (after : List ℕ) (s : StandsIn mode e.octets after c) where
   -- what stands in front has octets that are accepted
-  accepted_there : (v : Tree) (u rest : List ℕ) (x : StringOctets) → HasTagged t c v u rest → MeansString c.mode v x → IsOfSet step (octets_of x)
+  accepted_there : (v : Tree) (u rest : List ℕ) (x : StringOctets) → HasValue c v u rest × (tag_of v ≡ t) → MeansString c.mode v x → IsOfSet step (octets_of x)
   accepted_there v u rest x h m =
       let encodes = subst (λ z. IsEncoding z written.value e.octets) (sym s.in_mode) written.encodes in
       let one = only_at_front c.mode written.value e.octets after encodes v u rest h.0.encodes (sym s.rest ∙ h.0.rest) in

@@ -26,7 +26,7 @@ use Rattle.bcder.specs.steps.Growing.{AreOpen}
 use Rattle.bcder.specs.x690.Preorder.{Heading, preorder, preorders}
 use Rattle.bcder.specs.steps.Reading.{read_contents, read_list}
 use Rattle.bcder.specs.calls.Stream.{IsSound, Layer, Stream, Grew, cut, past, limited}
-use Rattle.bcder.specs.calls.Content.{NothingThere, Reading, values, any, Falls, FitsOwed, Enters, EndsBefore, Moves, NotAtEnd}
+use Rattle.bcder.specs.calls.Content.{NothingThere, Reading, values, any, Falls, FitsOwed, Enters, EndsBefore, Moves}
 use Rattle.bcder.specs.calls.Skipping.{Steps, Called}
 use Rattle.bcder.specs.steps.Stacked as stacked
 use Rattle.bcder.specs.laws.Complete.{header_size}
@@ -246,7 +246,7 @@ module _ {F : Type 0} (step : Steps F ContentError) (mode : Mode) (h : Header) (
         grew : Grew c.stream.faults d.stream.faults → Grew s.faults v.faults
         grew y = subst (λ n. Grew n v.faults) (ap (λ z. z.faults) cs ∙ w.no_fault) (subst (λ n. Grew c.stream.faults n) (ap (λ z. z.faults) ds) y)
 
-        remains : (es : List Entry) → 1 ≤ length es → TopIs es k → stacked.AreLimited es p → NoValue c → NotAtEnd c → remain mode es p t.rest ≡ None
+        remains : (es : List Entry) → 1 ≤ length es → TopIs es k → stacked.AreLimited es p → NoValue c → ((after : List ℕ) → EndsBefore c after → ⊥) → remain mode es p t.rest ≡ None
         remains [] l ti li n j = absurd (omega arith)
         remains (top ∷ fs) l ti li n j = nothing_more mode fs t p c k ck st cm co (ap (λ z. z.rest) cs) (octets_moved t v p q c d cs co ds do' wi) n j top ti li
 

@@ -16,11 +16,11 @@ use Rattle.bcder.specs.x690.Encoding.{IsEncoding, Header}
 use Rattle.bcder.specs.x690.Preorder.{Heading, preorder}
 use Rattle.bcder.specs.steps.Reading.{read_header, read_contents, read_list, read_tree}
 use Rattle.bcder.specs.calls.Stream.{Stream, Grew, cut, past, limited}
-use Rattle.bcder.specs.calls.Content.{Reading, Octets, Resembles, any, Falls, Moves, Advances, Enters, NotAtEnd}
+use Rattle.bcder.specs.calls.Content.{EndsBefore, Reading, Octets, Resembles, any, Falls, Moves, Advances, Enters}
 use Rattle.bcder.specs.x690.Grammar.{IsOnly}
 use Rattle.bcder.specs.calls.Walking.{HasNoNext, PassesValue, Walks}
 use Rattle.bcder.specs.calls.Takes.{HasNone, NextBy}
-use Rattle.bcder.specs.calls.Skipping.{Steps, Called, WereCalls, SkipsValue, RefusesSkip, SkippedBy}
+use Rattle.bcder.specs.calls.Skipping.{Steps, Called, WereCalls, SkipsValue, RefusesSkip}
 use Rattle.bcder.specs.calls.Skipping.{SkippedValueBy, RefusesOne, RefusesSkipAll}
 use Rattle.bcder.specs.calls.Skipping as skipping
 use Rattle.bcder.specs.steps.Stacked.{heading, interrupt_cause, PassesCalls, IsUnderWay, IsBroken, RanBy, Breaks, by_source, by_content, by_closure, by_memory}
@@ -39,6 +39,10 @@ use Rattle.bcder.specs.calls.Refusals as refusals
 use Rattle.bcder.specs.calls.Refusals.{Refuses}
 use Rattle.bcder.specs.steps.WalkSteps.{NoValue}
 use Rattle.bcder.proofs.WalkSteps.{no_next, walks_refused}
+
+-- a call passed over the next value, or found the end, or refused; `why` gives the cause of its error
+abbrev pub SkippedBy : {F T X : Type 0} → (X → Cause ContentError) → Steps F ContentError → Reading → F → Result (Option T) X → F → Reading → Type 0
+SkippedBy why step c f r g d = NextBy any (λ i _ j. SkipsValue step i f g j) (λ i e j. RefusesSkip why step i f e g j) c r d
 
 -- ---- calls that were made
 
@@ -64,7 +68,7 @@ module _ (c d e : Reading) (k : Header) (s t : Stream) (o p : Option ℕ) (withi
   read_is = from_header c.mode k c.stream.rest (cut o s.rest) within.octets (ap (read_header c.mode) (x.advances.rest ∙ ap (λ z. x.octets ++ z.rest) ds)
       ∙ header_complete c.mode k.tag k.form k.len x.octets (cut o s.rest) x.is_header)
 
-  not_at_end : NotAtEnd c
+  not_at_end : (after : List ℕ) → EndsBefore c after → ⊥
   not_at_end = header_not_at_end c d.stream.rest within x.usable (header_entered c k d any refl x)
 
   module _ (calls : List Heading) (g : PassesCalls c.mode s o calls t p) where
@@ -98,9 +102,12 @@ module _ (c d e : Reading) (k : Header) (s t : Stream) (o p : Option ℕ) (withi
       some = (u, more, is);
       one = λ v w after h. one v after (sym read_is ∙ ap (read_tree c.mode) h.rest ∙ tree_complete c.mode v w after h.encodes);
       stand = (
+        k.len,
+        x.octets,
         d.stream.rest,
         e.stream.rest,
-        record { len = k.len; header = x.octets; is_header = x.is_header; is = x.advances.rest },
+        x.is_header,
+        x.advances.rest,
         subst (λ z. skipping.HeadersStand c.mode calls z e.stream.rest) (ap (λ z. z.rest) (sym ds))
             (subst (λ z. skipping.HeadersStand c.mode calls (cut o s.rest) z) (ap (λ z. z.rest) (sym es)) g.stand),
       );
@@ -154,16 +161,13 @@ module _ (c d e : Reading) (k : Header) (s t : Stream) (o p : Option ℕ) (withi
     pub skipped_value : {F T X : Type 0} (why : X → Cause ContentError) (step : Steps F ContentError) (f g : F) (y : T) → t.faults ≡ s.faults
         → d.stream.faults ≡ c.stream.faults → Called step f (heading k 0 ∷ calls) g → SkippedBy why step c f (Ok (Some y)) g e
     skipped_value why step f g y nf nd called = record {
-      next = record {
-        value = skips_value step f g called;
-        none = tt;
-        no_fault = ap (λ z. z.faults) es ∙ nf ∙ ap (λ z. z.faults) (sym ds) ∙ nd;
-        refused = tt;
-        failed = tt;
-        mode = em ∙ x.advances.mode;
-        marked = ea ∙ x.unmarked;
-      };
-      uncalled = tt;
+      value = skips_value step f g called;
+      none = tt;
+      no_fault = ap (λ z. z.faults) es ∙ nf ∙ ap (λ z. z.faults) (sym ds) ∙ nd;
+      refused = tt;
+      failed = tt;
+      mode = em ∙ x.advances.mode;
+      marked = ea ∙ x.unmarked;
     }
 
   -- ---- a refusal of it
@@ -191,16 +195,13 @@ module _ (c d e : Reading) (k : Header) (s t : Stream) (o p : Option ℕ) (withi
 
     pub skipped_not : {T : Type 0} → Breaks step c.mode k s o f h g t p → SkippedBy {T = T} why step c f (Err y) g e
     skipped_not b = record {
-      next = record {
-        value = tt;
-        none = tt;
-        no_fault = tt;
-        refused = refused_by b;
-        failed = st;
-        mode = em ∙ x.advances.mode;
-        marked = ea ∙ x.unmarked;
-      };
-      uncalled = tt;
+      value = tt;
+      none = tt;
+      no_fault = tt;
+      refused = refused_by b;
+      failed = st;
+      mode = em ∙ x.advances.mode;
+      marked = ea ∙ x.unmarked;
     }
 
     pub breaks_moves : s.faults ≤ t.faults → Breaks step c.mode k s o f h g t p → Moves c e
@@ -260,23 +261,17 @@ module _ (c d e : Reading) (k : Header) (m : Mode) (s t : Stream) (o p : Option 
 module _ {F X : Type 0} (why : X → Cause ContentError) (step : Steps F ContentError) (c d : Reading) (f : F) (mode : d.mode ≡ c.mode)
     (marked : d.marked ≡ c.marked) where
   pub skipped_end : {T : Type 0} → HasNone any c d → SkippedBy {T = T} why step c f (Ok None) f d
-  skipped_end n = record {
-    next = record { value = tt; none = n; no_fault = n.no_fault; refused = tt; failed = tt; mode = mode; marked = marked };
-    uncalled = refl;
-  }
+  skipped_end n = record { value = tt; none = n; no_fault = n.no_fault; refused = tt; failed = tt; mode = mode; marked = marked }
 
   pub skipped_none : {T : Type 0} (e : X) → Moves c d → Refuses why any HasNoNext ⊥ c e d → d.state ≡ Failed → SkippedBy {T = T} why step c f (Err e) f d
   skipped_none e m r a = record {
-    next = record {
-      value = tt;
-      none = tt;
-      no_fault = tt;
-      refused = skipping.RefusesSkip.by_content [] refl (no_calls c d (moved_is_no_longer c d m)) r;
-      failed = a;
-      mode = mode;
-      marked = marked;
-    };
-    uncalled = tt;
+    value = tt;
+    none = tt;
+    no_fault = tt;
+    refused = skipping.RefusesSkip.by_content [] refl (no_calls c d (moved_is_no_longer c d m)) r;
+    failed = a;
+    mode = mode;
+    marked = marked;
   }
 
 -- ---- a value that has to be there
@@ -284,7 +279,7 @@ module _ {F X : Type 0} (why : X → Cause ContentError) (step : Steps F Content
 module _ {F S : Type 0} (step : Steps F ContentError) (c : Reading) (f g : F) (d : Reading) where
   pub value_refused : {T U : Type 0} (e : DecodeError S) → SkippedBy {T = T} {X = DecodeError S} cause_of step c f (Err e) g d
       → SkippedValueBy {T = U} {S = S} step c f (Err e) g d
-  value_refused e s = record { value = tt; no_fault = tt; refused = inr (s.next.failed, s.next.refused); mode = s.next.mode; marked = s.next.marked }
+  value_refused e s = record { value = tt; no_fault = tt; refused = inr (s.failed, s.refused); mode = s.mode; marked = s.marked }
 
 -- ---- without a closure
 

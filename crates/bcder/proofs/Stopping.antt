@@ -3,18 +3,18 @@ use Rattle.std.proofs.Common.{◌≡◌, ◌∙◌, subst, sym}
 use Rattle.bcder.specs.declared.decode.error.ContentError.{ContentError}
 use Rattle.bcder.specs.calls.Cause.{Cause, IsOfContent}
 use Rattle.bcder.specs.calls.Content.{NothingThere, any, Reading, Asked}
-use Rattle.bcder.specs.calls.Content as content
 use Rattle.bcder.specs.calls.Calls as calls
 use Rattle.bcder.specs.calls.Refusals as refusals
 use Rattle.bcder.specs.calls.Refusals.{Refuses}
 use Rattle.bcder.specs.calls.Walking.{HasNoNext}
+use Rattle.bcder.specs.steps.Entering.{NamesViolation}
 
 module _ {E F : Type 0} (stopped : E → Cause ContentError) (why : F → Cause ContentError) (s : E) (e : F) (same : why e ≡ stopped s) (c d : Reading) where
   own : IsOfContent (stopped s) → IsOfContent (why e)
   own o = subst IsOfContent (sym same) o
 
-  named : content.NamesViolation (stopped s) c → content.NamesViolation (why e) c
-  named o = record { violation = o.violation; violates = o.violates; named = same ∙ o.named }
+  named : NamesViolation (stopped s) c → NamesViolation (why e) c
+  named o = (o.0, o.1, same ∙ o.2)
 
   pub header_stopped : (asked : Asked) → Refuses stopped asked (NothingThere asked) ⊥ c s d → Refuses why asked (NothingThere asked) ⊥ c e d
   header_stopped asked (refusals.Refuses.failed x o) = refusals.Refuses.failed x (own o)

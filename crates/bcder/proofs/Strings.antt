@@ -15,15 +15,15 @@ use Rattle.bcder.specs.calls.Cause.{cause_of, of_memory, IsRefusal}
 use Rattle.bcder.specs.calls.Stream.{limit_or}
 use Rattle.bcder.specs.calls.Captured.{Kept}
 use Rattle.bcder.specs.calls.Content.{any, Reading, Octets, Closes, HasHeader, IsDone, IsUsedUp, tagged}
-use Rattle.bcder.specs.calls.Walking.{HasValues, IsShort}
-use Rattle.bcder.specs.calls.Readers.{HasAll, Reads, RefusesReading, FindNoMemory}
+use Rattle.bcder.specs.calls.Walking.{HasValue, HasValues}
+use Rattle.bcder.specs.calls.Readers.{Reads, RefusesReading, FindNoMemory}
 use Rattle.bcder.specs.calls.Readers as readers
-use Rattle.bcder.specs.calls.CapturingValues.{IsAsBefore, CapturesBy, CapturesValues, HasOthers, HasValuesOrDeep}
+use Rattle.bcder.specs.calls.CapturingValues.{CapturesBy, CapturesValues, HasOthers, HasValuesOrDeep}
 use Rattle.bcder.specs.calls.StringOctets.{StringOctets, whole, cut, MeansString}
 use Rattle.bcder.specs.x690.OctetString.{segments_of, AreSegmentsIn, MayBeWhole, AreCut}
 use Rattle.bcder.specs.steps.SegmentTable.{segments_at, IsTable}
-use Rattle.bcder.specs.calls.Valued.{HoldsOctets, HoldsValues, HoldsNone, ReadsTree, NeedsMemory, RefusesToRead, ReadsContent, RefusesTree}
-use Rattle.bcder.specs.calls.Valued.{HasTagged, HasNoTree, WantsMemoryFor, TakesNextTree}
+use Rattle.bcder.specs.calls.Valued.{tag_of, HoldsOctets, HoldsValues, HoldsNone, ReadsTree, NeedsMemory, RefusesToRead, ReadsContent, RefusesTree}
+use Rattle.bcder.specs.calls.Valued.{HasNoTree, WantsMemoryFor, TakesNextTree}
 use Rattle.bcder.specs.calls.Valued as valued
 use Rattle.bcder.specs.laws.Lists.{empty_list}
 use Rattle.bcder.proofs.Moving.{open_not_ended, open_not_failed}
@@ -63,12 +63,12 @@ too_long mode tag c m l k o (primitive t contents) x h means =
 too_long mode tag c m l k o (constructed t ts) x h means = not_values c ts k o h.1
 
 -- octets that all came, not too many in CER, are those of a string in one piece
-pub all_whole : (c : Reading) → (c.mode ≡ Cer → limit_or c.owed 0 ≤ 1000) → HasAll (length c.stream.rest) c → MayBeWhole c.mode c.stream.rest
-all_whole c most h = whole_in c.mode c.stream.rest (λ m. (let q = most m in omega (arith, q, limit_is c.owed (length c.stream.rest) h.owed)))
+pub all_whole : (c : Reading) → (c.mode ≡ Cer → limit_or c.owed 0 ≤ 1000) → c.owed ≡ Some (length c.stream.rest) → MayBeWhole c.mode c.stream.rest
+all_whole c most h = whole_in c.mode c.stream.rest (λ m. (let q = most m in omega (arith, q, limit_is c.owed (length c.stream.rest) h)))
 
 -- they are those that the content holds
-pub all_held : (c : Reading) → c.kind ≡ Octets → c.state ≡ Open → HasAll (length c.stream.rest) c → HoldsOctets c c.stream.rest
-all_held c k o h = record { usable = o; form = k; owed = h.owed; rest = refl }
+pub all_held : (c : Reading) → c.kind ≡ Octets → c.state ≡ Open → c.owed ≡ Some (length c.stream.rest) → HoldsOctets c c.stream.rest
+all_held c k o h = record { usable = o; form = k; owed = h; rest = refl }
 
 done_octets : (d : Reading) → d.kind ≡ Octets → d.state ≡ Open → d.owed ≡ Some 0 → IsDone d
 done_octets d k o e = inr (o, subst (λ f. IsUsedUp f d.owed d.stream.rest) (sym k) e)
@@ -80,7 +80,7 @@ read_whole tag c d b r k l most =
     record {
       value = record {
         tree = primitive tag c.stream.rest;
-        holds = (refl, record { usable = k.1; form = k.0; owed = r.all.owed; rest = refl });
+        holds = (refl, record { usable = k.1; form = k.0; owed = r.all; rest = refl });
         means = (all_whole c most r.all, ap whole r.value);
       };
       done = done_octets d l.0 l.1 r.none_owed;
@@ -107,8 +107,9 @@ pub refuse_long : {X : Type 0} (tag : Tag) (c : Reading) (e : DecodeError X) →
 refuse_long tag c e a k long =
     record { value = tt; done = tt; no_fault = tt; refused = valued.RefusesToRead.nothing (long_none tag c k long) a; mode = refl; marked = refl }
 
-pub too_few : {T : Type 0} (tag : Tag) (Means : Tree → T → Type 0) (c : Reading) → c.kind ≡ Octets → c.state ≡ Open → IsShort c → HoldsNone tag Means c
-too_few tag Means c k o s (primitive t contents) x h means = omega (arith, s.short (length contents) h.1.owed, ap length h.1.rest)
+pub too_few : {T : Type 0} (tag : Tag) (Means : Tree → T → Type 0) (c : Reading) → c.kind ≡ Octets → c.state ≡ Open
+    → ((n : ℕ) → c.owed ≡ Some n → length c.stream.rest < n) → HoldsNone tag Means c
+too_few tag Means c k o s (primitive t contents) x h means = omega (arith, s (length contents) h.1.owed, ap length h.1.rest)
 too_few tag Means c k o s (constructed t ts) x h means = not_values c ts k o h.1
 
 refused_octets : {X : Type 0} (tag : Tag) (c d : Reading) (e : DecodeError X) → c.kind ≡ Octets → c.state ≡ Open → (c.mode ≡ Cer → limit_or c.owed 0 ≤ 1000)
@@ -185,7 +186,7 @@ module _ {X : Type 0} (Means : Mode → Tree → StringOctets → Type 0) (in_on
   piece_not_taken after f p e k =
       record { value = tt; none = tt; no_fault = tt; refused = of_piece k.refused; failed = k.failed; mode = k.mode; marked = k.marked }
     where
-      none : HasNoTree {T = List ℕ} tag (λ t w. Means c.mode t (whole w)) c → (t : Tree) (w rest : List ℕ) (x : StringOctets) → HasTagged tag c t w rest
+      none : HasNoTree {T = List ℕ} tag (λ t w. Means c.mode t (whole w)) c → (t : Tree) (w rest : List ℕ) (x : StringOctets) → HasValue c t w rest × (tag_of t ≡ tag)
           → Means c.mode t x → ⊥
       none n (primitive t contents) w rest x h means = n.value (primitive t contents) w rest contents h (in_one c.mode t contents x means)
       none n (constructed t ts) w rest x h means = primitive_in_front tag c after f p t ts w rest h
@@ -268,12 +269,13 @@ no_others tag Means c o n (constructed t ts) x held means = of_held held.1
     of_held (inl v) = n.none v.values
     of_held (inr e) = open_not_ended c.state n.usable e.0
 
-not_captured : {X : Type 0} (tag : Tag) (c d : Reading) (e : DecodeError X) → c.kind ≢ Octets → c.mode ≢ Der → IsAsBefore c d
+not_captured : {X : Type 0} (tag : Tag) (c d : Reading) (e : DecodeError X) → c.kind ≢ Octets → c.mode ≢ Der
+    → (d.stream.rest ≡ c.stream.rest) × (d.owed ≡ c.owed) × (d.state ≡ c.state)
     → Refuses cause_of any HasOthers ((cause_of e ≡ of_memory) × HasValuesOrDeep c) c e d → RefusesToRead tag (MeansString c.mode) c e d
 not_captured tag c d e o m b (refusals.Refuses.failed s a) = valued.RefusesToRead.failed s a
 not_captured tag c d e o m b (refusals.Refuses.source s g) = valued.RefusesToRead.source s g
 not_captured tag c d e o m b (refusals.Refuses.nothing n a) = valued.RefusesToRead.nothing (no_others tag _ c o n) a.refused
-not_captured tag c d e o m b (refusals.Refuses.otherwise h) = valued.RefusesToRead.memory h.0 (valued.NeedsMemory.of_values m o h.1 b.rest b.state)
+not_captured tag c d e o m b (refusals.Refuses.otherwise h) = valued.RefusesToRead.memory h.0 (valued.NeedsMemory.of_values m o h.1 b.0 b.2)
 
 -- what is answered of values
 module _ {X : Type 0} (tag : Tag) (c d : Reading) where

@@ -23,7 +23,7 @@ use Rattle.bcder.specs.calls.StringMeaning.{full_segments, segments_in_cer, is_c
 use Rattle.bcder.specs.calls.Content.{Reading, tagged, IsAbsent, IsElsewhere, none_left, other, marker}
 use Rattle.bcder.specs.calls.Walking.{HasValue}
 use Rattle.bcder.specs.calls.Takes.{HasNone}
-use Rattle.bcder.specs.calls.Valued.{tag_of, HasTagged, TakesTree, TakesNextTree, TakesOneTree, RefusesTree}
+use Rattle.bcder.specs.calls.Valued.{tag_of, TakesTree, TakesNextTree, TakesOneTree, RefusesTree}
 use Rattle.bcder.specs.calls.TakenBack.{StandsIn, SourceFailedOrNoMemory}
 use Rattle.bcder.specs.calls.WrittenStrings.{IsWrittenString, HasOctets, HasSomeOctets, AnswersSuch, IsTakenString, IsMadeUp, one_encoded, WrittenAsRead}
 use Rattle.bcder.specs.laws.Canonical.{big_endian-lt, one_spelling}
@@ -79,7 +79,7 @@ meant_by mode (constructed t ts) w h shape =
 
 module _ (X : Type 0) (t : Tag) (mode : Mode) (w : List ℕ) (e : Encoded) (written : IsWrittenString t mode w e) (c : Reading) (after : List ℕ)
     (s : StandsIn mode e.octets after c) where
-  there : HasTagged t c written.value e.octets after
+  there : HasValue c written.value e.octets after × (tag_of written.value ≡ t)
   there = (record { usable = s.usable; encodes = subst (λ m. IsEncoding m written.value e.octets) (sym s.in_mode) written.encodes; rest = s.rest }, written.tag)
 
   taken_is : (y : StringOctets) (d : Reading) → TakesTree t (MeansString c.mode) c y d → (octets_of y ≡ w) × (d.stream.rest ≡ after) × (d.state ≡ Open)

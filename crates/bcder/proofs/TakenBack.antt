@@ -11,6 +11,7 @@ use Rattle.bcder.specs.declared.decode.error.DecodeError.{DecodeError}
 use Rattle.std.specs.Int.{Width, FitsUnsignedBits}
 use Rattle.std.specs.Int.RustNames.{FitsSigned}
 use Rattle.bcder.specs.x690.Identifier.{universal, Tag, IsValueTag, AreOctets, boolean_tag, integer_tag, null_tag}
+use Rattle.bcder.specs.calls.Valued.{tag_of, TakesTree}
 use Rattle.bcder.specs.calls.Cause.{cause_of, of_source, of_memory}
 use Rattle.bcder.specs.calls.Calls.{Answered}
 use Rattle.bcder.specs.calls.Decoding.{IsAllOf, by_closure, left_failed, Decodes, RefusesDecode}
@@ -20,10 +21,10 @@ use Rattle.std.specs.Borrow.{MutBor}
 use Rattle.std.specs.Io.KnownBytes.{Appends}
 use Rattle.bcder.specs.x690.Integer.{AreInteger, octet, octets_within, integer_octets}
 use Rattle.bcder.specs.x690.Number.{HasMagnitude}
-use Rattle.bcder.specs.x690.Tree.{Tree, primitive}
+use Rattle.bcder.specs.x690.Tree.{Tree, primitive, constructed}
 use Rattle.bcder.specs.x690.Encoding.{IsEncoding}
 use Rattle.bcder.specs.x690.Octets.{definite}
-use Rattle.bcder.specs.calls.Meaning.{Encoded, Meaning, encoded_octets, ContentsMeaning, IsLawfulContents, Exactly, ExactlyOctets}
+use Rattle.bcder.specs.calls.Meaning.{Encoded, Meaning, ContentsMeaning, IsLawfulContents, Exactly, ExactlyOctets}
 use Rattle.bcder.specs.calls.Meaning.{truth_octets, fits_primitive, BitsMean, ValueMeans, primitive_encoded, primitive_meaning}
 use Rattle.bcder.specs.declared.oid.Oid.{Oid}
 use Rattle.bcder.specs.x690.ObjectIdentifier.{IsComplete, identifier_tag}
@@ -33,11 +34,11 @@ use Rattle.bcder.specs.x690.BitString.{Bits, IsBits, bit_string_tag, as_written,
 use Rattle.bcder.specs.calls.ReadBits.{HoldBits, NoBits}
 use Rattle.bcder.specs.calls.ReadBack.{IsReadBack}
 use Rattle.bcder.specs.calls.Content.{Reading, tagged, IsAbsent, IsElsewhere, none_left, other, marker}
-use Rattle.bcder.specs.calls.Takes.{HasNone}
+use Rattle.bcder.specs.calls.Takes.{OneBy, NextBy, HasNone}
 use Rattle.bcder.specs.calls.Readers.{MeanNothing, MeanAnother, NoInteger, NoUnsigned, IsThis, IsSigned, IsUnsigned, IsTruth, IsNull}
 use Rattle.bcder.specs.calls.Refusals as refusals
 use Rattle.bcder.specs.calls.Walking.{HasValue}
-use Rattle.bcder.specs.calls.Typed.{TakesAs, RefusesAs, TakesNextAs, PassesNextAs, TakesOneAs}
+use Rattle.bcder.specs.calls.Typed.{InPrimitive, RefusesAs, PassesNextAs}
 use Rattle.bcder.specs.calls.TakenBack.{StandsIn, SourceFailed, SourceFailedOrNoMemory, AnswersLeaving, TakesBack, IsTakenBackBy, IsTakenBack}
 use Rattle.bcder.specs.laws.Complete.{only_at_front, definite_size}
 use Rattle.bcder.specs.laws.Integers.{integer_octets_are}
@@ -92,20 +93,26 @@ module _ {T X : Type 0} (Fails : Reading → DecodeError X → Reading → Type 
     has_value : HasValue c (primitive tag contents) w after
     has_value = record { usable = s.usable; encodes = subst (λ m. IsEncoding m (primitive tag contents) w) (sym s.in_mode) encodes; rest = s.rest }
 
-    taken_is : (y : T) (d : Reading) → TakesAs tag Means c y d → (y ≡ x) × (d.stream.rest ≡ after) × (d.state ≡ Open)
-    taken_is y d t =
-        let same = same_value tag c contents w after has_value t.contents t.octets d.stream.rest t.has in
-        (no_other y (subst (λ z. Means z y) same.0 t.means), same.1, t.stays)
+    taken_is : (y : T) (d : Reading) → TakesTree tag (InPrimitive Means) c y d → (y ≡ x) × (d.stream.rest ≡ after) × (d.state ≡ Open)
+    taken_is y d t = by_tree t.tree t.octets t.has t.means
+      where
+        by_tree : (v : Tree) (u : List ℕ) → HasValue c v u d.stream.rest × (tag_of v ≡ tag) → InPrimitive Means v y
+            → (y ≡ x) × (d.stream.rest ≡ after) × (d.state ≡ Open)
+        by_tree (primitive k b) u h m =
+            let same = same_value tag c contents w after has_value b u d.stream.rest
+            (subst (λ z. HasValue c (primitive z b) u d.stream.rest) h.1 h.0) in
+            (no_other y (subst (λ z. Means z y) same.0 m), same.1, t.stays)
+        by_tree (constructed k ts) u h m = absurd m
 
-    refusal_fails : (e : DecodeError X) (d : Reading) → RefusesAs tag Means Refuses c e d → Fails c e d
+    refusal_fails : (e : DecodeError X) (d : Reading) → RefusesAs tag Refuses c e d → Fails c e d
     refusal_fails e d (refusals.Refuses.failed f i) = absurd (open_not_failed c.state s.usable f)
     refusal_fails e d (refusals.Refuses.source f g) = source c e d (f, g)
-    refusal_fails e d (refusals.Refuses.nothing b i) = absurd (b.value contents w after has_value)
+    refusal_fails e d (refusals.Refuses.nothing b i) = absurd (b.value (primitive tag contents) w after tt (has_value, refl) tt)
     refusal_fails e d (refusals.Refuses.otherwise (v, z, rest, h, r)) =
         let same = same_value tag c contents w after has_value v z rest h in
         excused c e d (subst (λ y. Refuses y e) same.0 r)
 
-    one_answers : (r : Result T (DecodeError X)) (d : Reading) → TakesOneAs tag Means Refuses c r d → AnswersLeaving Fails x after c r d
+    one_answers : (r : Result T (DecodeError X)) (d : Reading) → OneBy (tagged tag) (TakesTree tag (InPrimitive Means)) (RefusesAs tag Refuses) c r d → AnswersLeaving Fails x after c r d
     one_answers (Ok y) d t =
         let is = taken_is y d t.value in
         record { value = is.0; rest = is.1; stays = is.2; no_fault = t.no_fault; fails = tt; mode = t.mode; marked = t.marked }
@@ -120,7 +127,7 @@ module _ {T X : Type 0} (Fails : Reading → DecodeError X → Reading → Type 
       marked = t.marked;
     }
 
-    next_answers : (r : Result (Option T) (DecodeError X)) (d : Reading) → TakesNextAs tag Means Refuses c r d → AnswersLeaving Fails (Some x) after c r d
+    next_answers : (r : Result (Option T) (DecodeError X)) (d : Reading) → NextBy (tagged tag) (TakesTree tag (InPrimitive Means)) (RefusesAs tag Refuses) c r d → AnswersLeaving Fails (Some x) after c r d
     next_answers (Ok None) d t = absurd (not_none tag c contents w after has_value d t.none)
     next_answers (Ok (Some y)) d t =
         let is = taken_is y d t.value in
@@ -306,12 +313,12 @@ module _ {X : Type 0} (refusal : EncodeError) (mode : Mode) (x : Bits) (is : IsB
 
 module _ {C T X : Type 0} (view : C → Reading) (post : MutBor C → Result T (DecodeError X) → MutBor C → Type 0)
     (no_fault : (e : DecodeError X) → cause_of e ≡ of_source → ⊥) (tag : Tag) (Means : List ℕ → T → Type 0)
-    (takes : (p : MutBor C) (r : Result T (DecodeError X)) (q : MutBor C) → post p r q → TakesOneAs tag Means (MeanNothing Means) (view p.now) r (view q.now))
+    (takes : (p : MutBor C) (r : Result T (DecodeError X)) (q : MutBor C) → post p r q → OneBy (tagged tag) (TakesTree tag (InPrimitive Means)) (RefusesAs tag (MeanNothing Means)) (view p.now) r (view q.now))
     (mode : Mode) (Writes : Meaning → Type 0) (x : T) (back : IsTakenBack X tag Means mode Writes x) (s : Stream) (whole : s.rest ≡ back.encoded.octets) where
   took : (i j : Reading) (r : Result T (DecodeError X)) → Answered {R = Result T (DecodeError X)} view post i r j
-      → TakesOneAs tag Means (MeanNothing Means) i r j
-  took i j r a = subst (λ z. TakesOneAs tag Means (MeanNothing Means) z r j) a.handed_is
-      (subst (λ z. TakesOneAs tag Means (MeanNothing Means) (view a.handed.now) r z) a.left_is (takes a.handed r a.left a.called))
+      → OneBy (tagged tag) (TakesTree tag (InPrimitive Means)) (RefusesAs tag (MeanNothing Means)) i r j
+  took i j r a = subst (λ z. OneBy (tagged tag) (TakesTree tag (InPrimitive Means)) (RefusesAs tag (MeanNothing Means)) z r j) a.handed_is
+      (subst (λ z. OneBy (tagged tag) (TakesTree tag (InPrimitive Means)) (RefusesAs tag (MeanNothing Means)) (view a.handed.now) r z) a.left_is (takes a.handed r a.left a.called))
 
   all_stands : (i : Reading) → IsAllOf s mode i → StandsIn mode back.encoded.octets [] i
   all_stands i o = record { usable = o.state; in_mode = o.mode; rest = ap (λ z. z.rest) o.stream ∙ whole ∙ sym (append-nil back.encoded.octets) }
@@ -322,20 +329,20 @@ module _ {C T X : Type 0} (view : C → Reading) (post : MutBor C → Result T (
 
   -- what was written is decoded
   pub decoded_is : (y : T) (left : Stream) → Decodes view post s mode y left → y ≡ x
-  decoded_is y left d = (answers_all d.handed d.left (Ok y) d.hands.over d.answered).value
+  decoded_is y left d = (answers_all d.handed d.left (Ok y) d.over d.answered).value
 
   -- and not refused
   pub decoded : (e : DecodeError X) (left : Stream) → RefusesDecode cause_of view post s mode e left → ⊥
   decoded e left d = elim d.refuses [
-    | by_closure a ↦ no_fault e ((answers_all d.handed d.left (Err e) d.hands.over a).fails.0)
-    | left_failed y a f i ↦ open_not_failed d.left.state ((answers_all d.handed d.left (Ok y) d.hands.over a).stays) f
+    | by_closure a ↦ no_fault e ((answers_all d.handed d.left (Err e) d.over a).fails.0)
+    | left_failed y a f i ↦ open_not_failed d.left.state ((answers_all d.handed d.left (Ok y) d.over a).stays) f
   ]
 
 -- ---- what a writing left, of values that mean one thing
 
 pub written_whole : (M : Meaning → Type 0) (lacks : Type 0) (old new : Option (List ℕ)) (a : Encoded) → ((m : Meaning) → M m → m ≡ Ok a)
-    → Writes encoded_octets M lacks old new (Ok tt) → Appends old new a.octets
+    → Writes (λ (e : Encoded). e.octets) M lacks old new (Ok tt) → Appends old new a.octets
 written_whole M lacks old new a only (inl w) =
-    let same : w.what ≡ a = (let e : ◌≡◌ {A = Meaning} (Ok w.what) (Ok a) = only (Ok w.what) w.meant in cc) in
-    subst (λ (z : Encoded). Appends old new z.octets) same w.wrote.done
-written_whole M lacks old new a only (inr n) = absurd (let e = n.answered in cc)
+    let same : w.0 ≡ a = (let e : ◌≡◌ {A = Meaning} (Ok w.0) (Ok a) = only (Ok w.0) w.1 in cc) in
+    subst (λ (z : Encoded). Appends old new z.octets) same w.2.done
+written_whole M lacks old new a only (inr n) = absurd (let e = n.1 in cc)

@@ -12,12 +12,13 @@ use Rattle.bcder.specs.declared.decode.error.ContentError.{ContentError}
 use Rattle.bcder.specs.calls.Cause.{Cause, cause_of, IsRefusal}
 use Rattle.bcder.specs.x690.Tree.{Tree}
 use Rattle.bcder.specs.x690.Encoding.{IsHeader, IsEncoding, Header}
-use Rattle.bcder.specs.calls.Content.{NothingThere, Reading, ContentForm, Octets, DefiniteValues, IndefiniteValues, UnboundedValues, label}
+use Rattle.bcder.specs.declared.decode.content.Kind.TheVariants as kind
+use Rattle.bcder.specs.calls.Content.{NothingThere, Reading, ContentForm, Octets, label, values}
 use Rattle.bcder.specs.calls.Content.{Moves, Advances, Asked, IsAsked, HasHeader, Enters}
-use Rattle.bcder.specs.calls.Calls.{IsFormOf, ContentOf, Hands, Untagged, Answered, AnswersDone, RefusesContent, by_closure}
+use Rattle.bcder.specs.calls.Calls.{IsFormOf, ContentOf, Hands, Answered, AnswersDone, RefusesContent, by_closure}
 use Rattle.bcder.specs.calls.Calls.{unfinished, TakesContent, TakesValue, RefusesFront, IsInside}
 use Rattle.bcder.specs.steps.Inside.{TakesBehind, of_form, refused, taken}
-use Rattle.bcder.specs.calls.Takes.{HasNone, HasRefusedForm, by_header, by_form, by_content, TakesNext}
+use Rattle.bcder.specs.calls.Takes.{HasNone, by_header, by_form, by_content, TakesNext}
 use Rattle.bcder.specs.laws.Complete.{header_size}
 use Rattle.bcder.proofs.Moving.{moves_value, moves_failed, advances_trans, open_not_ended}
 use Rattle.bcder.specs.calls.Refusals.{Refuses}
@@ -140,10 +141,10 @@ value_refused why view post asked c e d (refusals.Refuses.nothing n o) = refusal
 value_refused why view post asked c e d (refusals.Refuses.otherwise n) = absurd n
 
 -- the form of what is handed is not that at top level
-not_unbounded : (f : Bool) (len : Length) (k : ContentForm) → IsFormOf f len k → k ≢ UnboundedValues
-not_unbounded f Indefinite k h e = (let x : IndefiniteValues ≡ UnboundedValues = sym h ∙ e in cc)
-not_unbounded false (Definite n) k h e = (let x : Octets ≡ UnboundedValues = sym h ∙ e in cc)
-not_unbounded true (Definite n) k h e = (let x : DefiniteValues ≡ UnboundedValues = sym h ∙ e in cc)
+not_unbounded : (f : Bool) (len : Length) (k : ContentForm) → IsFormOf f len k → k ≢ values kind.Unbounded
+not_unbounded f Indefinite k h e = (let x : values kind.Indefinite ≡ values kind.Unbounded = sym h ∙ e in cc)
+not_unbounded false (Definite n) k h e = (let x : Octets ≡ values kind.Unbounded = sym h ∙ e in cc)
+not_unbounded true (Definite n) k h e = (let x : values kind.Definite ≡ values kind.Unbounded = sym h ∙ e in cc)
 
 -- content has no more octets than come behind its header
 no_more : (len : Length) (owed o : Option ℕ) (after rest : List ℕ) → ContentOf len owed after o rest → length rest ≤ length after
@@ -179,17 +180,13 @@ form_answered view post form c h (Ok _) d y f s = elim y [ ]
 
 module _ {C T X : Type 0} (view : C → Reading) (post : Tag → MutBor C → Result T (DecodeError X) → MutBor C → Type 0) (form : Option Bool) (asked : Asked) where
   module _ (c c1 d : Reading) (h : Header) (t : IsAsked asked h.tag) (x : Enters c h c1) (r : Result (Option T) (DecodeError X)) where
-    has_form : form ≡ Some h.form → HasRefusedForm form asked c
-    has_form e = subst (λ z. HasRefusedForm z asked c) (sym e)
-        (record { usable = x.usable; after = c1.stream.rest; front = header_entered c h c1 asked t x; is = refl })
-
     -- a value behind a header that was passed
     pub takes_next : TakesBehind view post form c1 h r d → TakesNext view post form asked c r d
     takes_next (of_form e q f o s) = subst (λ z. TakesNext view post form asked c z d) (sym q) (record {
       value = tt;
       shorter = tt;
       none = tt;
-      refused = by_form (has_form f) o (ap (λ z. z.marked) s ∙ x.unmarked);
+      refused = by_form (x.usable, c1.stream.rest, header_entered c h c1 asked t x, f) o (ap (λ z. z.marked) s ∙ x.unmarked);
       failed = ap (λ z. z.state) s ∙ x.opened;
       mode = ap (λ z. z.mode) s ∙ x.advances.mode;
     })
@@ -253,7 +250,7 @@ module _ {C T X : Type 0} (view : C → Reading) (h : Header) (last : Tag → Mu
       let m = k a.handed r a.left a.called in
       record { handed = m.handed; left = m.left; handed_is = m.handed_is ∙ a.handed_is; left_is = m.left_is ∙ a.left_is; called = m.called }
 
-  said_ok : (i j : Reading) (r : Result T (DecodeError X)) → IfOk r (λ v. AnswersDone {R = Result T (DecodeError X)} view (Untagged post) h.tag i (Ok v) j)
+  said_ok : (i j : Reading) (r : Result T (DecodeError X)) → IfOk r (λ v. AnswersDone {R = Result T (DecodeError X)} view (λ _. post) h.tag i (Ok v) j)
       → IfOk r (λ v. AnswersDone {R = Result T (DecodeError X)} view last h.tag i (Ok v) j)
   said_ok i j (Ok v) a = record {
     left = a.left;
@@ -266,17 +263,17 @@ module _ {C T X : Type 0} (view : C → Reading) (h : Header) (last : Tag → Mu
   }
   said_ok i j (Err e) a = tt
 
-  said_refused : (i : Reading) (e : DecodeError X) (j : Reading) → RefusesContent cause_of view (Untagged post) h.tag i e j
+  said_refused : (i : Reading) (e : DecodeError X) (j : Reading) → RefusesContent cause_of view (λ _. post) h.tag i e j
       → RefusesContent cause_of view last h.tag i e j
   said_refused i e j (by_closure a) = by_closure (said_of i (Err e) j a)
   said_refused i e j (unfinished v l a m k z) = unfinished v l (said_of i (Ok v) l a) m k z
 
-  said_err : (i j : Reading) (r : Result T (DecodeError X)) → IfErr r (λ e. RefusesContent cause_of view (Untagged post) h.tag i e j)
+  said_err : (i j : Reading) (r : Result T (DecodeError X)) → IfErr r (λ e. RefusesContent cause_of view (λ _. post) h.tag i e j)
       → IfErr r (λ e. RefusesContent cause_of view last h.tag i e j)
   said_err i j (Ok v) a = tt
   said_err i j (Err e) a = said_refused i e j a
 
-  said_content : (c : Reading) (r : Result T (DecodeError X)) (d : Reading) → TakesContent cause_of view (Untagged post) c h r d
+  said_content : (c : Reading) (r : Result T (DecodeError X)) (d : Reading) → TakesContent cause_of view (λ _. post) c h r d
       → TakesContent cause_of view last c h r d
   said_content c r d a = record {
     passed = a.passed;
@@ -295,7 +292,7 @@ module _ {C T X : Type 0} (view : C → Reading) (h : Header) (last : Tag → Mu
     refuses = said_err a.handed a.left r a.refuses;
   }
 
-  pub said_behind : (form : Option Bool) (c : Reading) (r : Result (Option T) (DecodeError X)) (d : Reading) → TakesBehind view (Untagged post) form c h r d
+  pub said_behind : (form : Option Bool) (c : Reading) (r : Result (Option T) (DecodeError X)) (d : Reading) → TakesBehind view (λ _. post) form c h r d
       → TakesBehind view last form c h r d
   said_behind form c r d (of_form e q f o s) = of_form e q f o s
   said_behind form c r d (refused e q a) = refused e q (said_content c (Err e) d a)

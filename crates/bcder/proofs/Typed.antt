@@ -1,5 +1,5 @@
 -- Values that are taken by readers of contents octets.
-use Rattle.std.proofs.Common.{◌≡◌, ℕ, Bool, true, false, List, ◌++◌, length, take, drop, Option, Some, None, refl, ap, sym, ◌∙◌}
+use Rattle.std.proofs.Common.{◌≡◌, ◌<◌, ℕ, Bool, true, false, List, ◌++◌, length, take, drop, Option, Some, None, refl, ap, sym, ◌∙◌}
 use Rattle.std.proofs.Common.{arith, length-append, append_assoc, take-append-drop, subst, inl, inr}
 use Rattle.std.specs.Prelude.{◌||◌, Result, Ok, Err}
 use Rattle.std.specs.Borrow.{MutBor}
@@ -10,22 +10,25 @@ use Rattle.bcder.specs.declared.length.Length.TheVariants.{Definite, Indefinite}
 use Rattle.bcder.specs.declared.decode.content.State.TheVariants.{Open}
 use Rattle.bcder.specs.declared.decode.error.DecodeError.{DecodeError}
 use Rattle.bcder.specs.x690.Identifier.{AreOctets, Tag}
-use Rattle.bcder.specs.x690.Tree.{Tree, primitive}
+use Rattle.bcder.specs.x690.Tree.{Tree, primitive, constructed}
 use Rattle.bcder.specs.x690.Encoding.{IsHeader, IsEncoding}
+use Rattle.bcder.specs.calls.Valued.{tag_of, HasNoTree, TakesTree}
 use Rattle.bcder.specs.calls.Stream.{Stream, IsSound}
 use Rattle.bcder.specs.declared.decode.content.Primitive.{Primitive}
 use Rattle.bcder.specs.declared.decode.content.Constructed.{Constructed}
 use Rattle.bcder.specs.calls.Views.{of_constructed, of_primitive}
 use Rattle.bcder.specs.calls.Cause.{cause_of}
-use Rattle.bcder.specs.calls.Content.{Reading, ContentForm, Octets, DefiniteValues, IndefiniteValues, any, tagged, label}
+use Rattle.bcder.specs.declared.decode.content.Kind.TheVariants as kind
+use Rattle.bcder.specs.calls.Content.{Reading, ContentForm, Octets, any, tagged, label, values}
 use Rattle.bcder.specs.calls.Content.{HasHeader, IsAbsent, IsElsewhere, none_left, other, marker, of_octets}
 use Rattle.bcder.specs.calls.Calls.{Hands, IsFormOf, ContentOf, Answered, TakesValue, RefusesFront, RefusesContent, by_closure}
-use Rattle.bcder.specs.calls.Calls.{unfinished, RefusesEnd, left_failed, source_failed, left_open, HasForm, Untagged}
-use Rattle.bcder.specs.calls.Takes.{HasNone, TakesNext, Takes, RefusesTake, by_header, by_form, by_content}
-use Rattle.bcder.specs.calls.Walking.{HasValue, IsShort}
-use Rattle.bcder.specs.calls.Readers.{HasAll, Reads, RefusesReading}
+use Rattle.bcder.specs.calls.Calls.{unfinished, RefusesEnd, left_failed, source_failed, left_open}
+use Rattle.bcder.specs.calls.Takes.{OneBy, NextBy, HasNone, TakesNext, Takes, RefusesTake, by_header, by_form, by_content}
+use Rattle.bcder.specs.calls.Walking.{HasValue}
+use Rattle.bcder.specs.calls.Readers.{Reads, RefusesReading}
 use Rattle.bcder.specs.calls.Readers as readers
-use Rattle.bcder.specs.calls.Typed.{HasBroken, TakesAs, RefusesAs, TakesNextAs, PassesNextAs, TakesOneAs}
+use Rattle.bcder.specs.calls.Typed.{InPrimitive, RefusesAs, PassesNextAs}
+use Rattle.bcder.specs.steps.Entering.{HasForm}
 use Rattle.bcder.specs.laws.Complete.{one_header}
 use Rattle.bcder.specs.laws.Sound.{AreOctets-take}
 use Rattle.bcder.specs.laws.Stands.{AreOctets-after}
@@ -87,20 +90,27 @@ header_not_absent tag c x rest o f (inr e) = elsewhere e.1
         (front_of_header c.mode f.tag f.form f.len f.octets c.stream.rest x f.is_header f.rest) f.is_asked y
     elsewhere (marker y z m) = header_no_marker (tagged tag) c x rest f m
 
+-- where no primitive value with the tag comes next, no value does that means anything by contents octets
+none_of_primitives : (tag : Tag) (c : Reading) → ((contents w rest : List ℕ) → HasValue c (primitive tag contents) w rest → ⊥)
+    → (t : Tree) (w rest : List ℕ) (x : Unit {0}) → HasValue c t w rest × (tag_of t ≡ tag) → InPrimitive {T = Unit {0}} (λ _ _. Unit {0}) t x → ⊥
+none_of_primitives tag c n (primitive t contents) w rest x h m = n contents w rest (subst (λ u. HasValue c (primitive u contents) w rest) h.1 h.0)
+none_of_primitives tag c n (constructed t ts) w rest x h m = m
+
 -- a header of another form isn't that of such a value
-no_other_form : (tag : Tag) (c : Reading) (f : HasForm true (tagged tag) c) (contents w rest : List ℕ) → HasValue c (primitive tag contents) w rest → ⊥
+no_other_form : (tag : Tag) (c : Reading) (f : HasForm (Some true) (tagged tag) c) (contents w rest : List ℕ) → HasValue c (primitive tag contents) w rest → ⊥
 no_other_form tag c f contents w rest h =
     let d = h.encodes.1 in
     let e : c.stream.rest ≡ d.header ++ (contents ++ rest) = h.rest ∙ ap (λ z. z ++ rest) d.is ∙ append_assoc d.header contents rest in
-    let same = one_header c.mode tag f.front.tag false f.front.form (Definite (length contents)) f.front.len d.header f.front.octets
-    (contents ++ rest) f.after d.is_header f.front.is_header (sym e ∙ f.front.rest) in
-    let x : false ≡ true = ap (λ z. z.form) same.0 ∙ f.is in
+    let same = one_header c.mode tag f.2.tag false f.2.form (Definite (length contents)) f.2.len d.header f.2.octets
+    (contents ++ rest) f.1 d.is_header f.2.is_header (sym e ∙ f.2.rest) in
+    let x : false ≡ f.2.form = ap (λ z. z.form) same.0 in
+    let y : Some true ≡ Some f.2.form = f.3 in
     cc
 
 form_is : (f : Bool) (l : Length) (k : ContentForm) → IsFormOf f l k → k ≡ Octets → (n : ℕ) × (f ≡ false) × (l ≡ Definite n)
-form_is f Indefinite k h e = (let x : IndefiniteValues ≡ Octets = sym h ∙ e in cc)
+form_is f Indefinite k h e = (let x : values kind.Indefinite ≡ Octets = sym h ∙ e in cc)
 form_is false (Definite n) k h e = (n, refl, refl)
-form_is true (Definite n) k h e = (let x : DefiniteValues ≡ Octets = sym h ∙ e in cc)
+form_is true (Definite n) k h e = (let x : values kind.Definite ≡ Octets = sym h ∙ e in cc)
 
 pub or_false : (a b : Bool) → b ≡ false → (a || b) ≡ a
 or_false true b e = refl
@@ -118,10 +128,10 @@ module _ (tag : Tag) (c i : Reading) (w : Within c) (after : List ℕ) (f : HasH
   handed_octets : (i.owed ≡ Some handed_form.0) × (i.stream.rest ≡ take handed_form.0 after)
   handed_octets = subst (λ z. ContentOf z f.owed after i.owed i.stream.rest) handed_form.2 g.octets
 
-  handed_count : HasAll (length i.stream.rest) i → length i.stream.rest ≡ handed_form.0
-  handed_count a = some_is _ _ (sym a.owed ∙ handed_octets.0)
+  handed_count : i.owed ≡ Some (length i.stream.rest) → length i.stream.rest ≡ handed_form.0
+  handed_count a = some_is _ _ (sym a ∙ handed_octets.0)
 
-  handed_encoded : HasAll (length i.stream.rest) i → IsEncoding c.mode (primitive tag i.stream.rest) (f.octets ++ i.stream.rest)
+  handed_encoded : i.owed ≡ Some (length i.stream.rest) → IsEncoding c.mode (primitive tag i.stream.rest) (f.octets ++ i.stream.rest)
   handed_encoded a =
       let o : AreOctets i.stream.rest =
       subst AreOctets (sym handed_octets.1) (AreOctets-take handed_form.0 after (AreOctets-after f.octets c.stream.rest after f.rest w.octets)) in
@@ -132,13 +142,13 @@ module _ (tag : Tag) (c i : Reading) (w : Within c) (after : List ℕ) (f : HasH
       (o, record { header = f.octets; is_header = h; is = refl })
 
   -- the value stands in front
-  pub handed_value : c.state ≡ Open → HasAll (length i.stream.rest) i → (rest : List ℕ) → after ≡ i.stream.rest ++ rest
+  pub handed_value : c.state ≡ Open → i.owed ≡ Some (length i.stream.rest) → (rest : List ℕ) → after ≡ i.stream.rest ++ rest
       → HasValue c (primitive tag i.stream.rest) (f.octets ++ i.stream.rest) rest
   handed_value o a rest e =
       record { usable = o; encodes = handed_encoded a; rest = f.rest ∙ ap (λ z. f.octets ++ z) e ∙ sym (append_assoc f.octets i.stream.rest rest) }
 
   -- before what is behind the octets that were handed
-  pub handed_before : HasAll (length i.stream.rest) i → after ≡ i.stream.rest ++ drop handed_form.0 after
+  pub handed_before : i.owed ≡ Some (length i.stream.rest) → after ≡ i.stream.rest ++ drop handed_form.0 after
   handed_before a = sym (take-append-drop handed_form.0 after) ∙ ap (λ z. z ++ drop handed_form.0 after) (sym handed_octets.1)
 
   -- or before the rest of a whole value
@@ -182,16 +192,19 @@ module _ {C T X : Type 0} (view : C → Reading) (post : Tag → MutBor C → Re
     unmarked : v.left.marked ≡ false
     unmarked = v.answers.marked ∙ read_all.marked ∙ v.hands.marked
 
-    taken_as : TakesAs tag (MeansIn c.mode) c x d
+    taken_as : TakesTree tag (InPrimitive (MeansIn c.mode)) c x d
     taken_as =
         let k = handed_is_octets v.front.tag v.handed v.answers.left (Ok x) v.answers.answered in
         let e : IsEncoding c.mode v.tree (v.front.octets ++ v.passed) =
         subst (λ b. IsEncoding (label c.mode b) v.tree (v.front.octets ++ v.passed)) unmarked v.encodes in
         record {
-          contents = v.handed.stream.rest;
+          tree = primitive tag v.handed.stream.rest;
           octets = v.front.octets ++ v.handed.stream.rest;
-          has = handed_value tag c v.handed w (v.passed ++ d.stream.rest) v.front v.hands k v.usable read_all.all d.stream.rest
-              (handed_passed tag c v.handed w (v.passed ++ d.stream.rest) v.front v.hands k v.tree v.passed d.stream.rest refl e);
+          has = (
+            handed_value tag c v.handed w (v.passed ++ d.stream.rest) v.front v.hands k v.usable read_all.all d.stream.rest
+                (handed_passed tag c v.handed w (v.passed ++ d.stream.rest) v.front v.hands k v.tree v.passed d.stream.rest refl e),
+            refl,
+          );
           means = read_all.value;
           stays = v.stays;
         }
@@ -205,15 +218,15 @@ module _ {C T X : Type 0} (view : C → Reading) (post : Tag → MutBor C → Re
   -- ---- refused
 
   module _ (c d : Reading) (w : Within c) (e : DecodeError X) (f : RefusesFront cause_of view post (tagged tag) c e d) where
-    is_broken : ((contents u rest : List ℕ) → HasValue c (primitive tag contents) u rest → ⊥) → HasBroken tag c
-    is_broken n = record { usable = f.usable; value = n; absent = λ rest. header_not_absent tag c f.after rest f.usable f.front }
+    is_broken : ((contents u rest : List ℕ) → HasValue c (primitive tag contents) u rest → ⊥) → HasNoTree {T = Unit {0}} tag (InPrimitive (λ _ _. Unit {0})) c
+    is_broken n = record { usable = f.usable; value = none_of_primitives tag c n; absent = λ rest. header_not_absent tag c f.after rest f.usable f.front }
 
-    few_octets : f.handed.kind ≡ Octets → IsShort f.handed → (contents u rest : List ℕ) → HasValue c (primitive tag contents) u rest → ⊥
+    few_octets : f.handed.kind ≡ Octets → ((n : ℕ) → f.handed.owed ≡ Some n → length f.handed.stream.rest < n) → (contents u rest : List ℕ) → HasValue c (primitive tag contents) u rest → ⊥
     few_octets k s contents u rest h =
         (short_front c f.handed f.after (any_of tag c f.after f.front) f.hands k s).none (primitive tag contents) u rest h.encodes h.rest
 
     refused_octets : f.handed.kind ≡ Octets → RefusesReading (RefusesIn c.mode) f.handed e f.left
-        → RefusesAs tag (MeansIn c.mode) (RefusesIn c.mode) c e d
+        → RefusesAs tag (RefusesIn c.mode) c e d
     refused_octets k (readers.RefusesReading.source s g) =
         refusals.Refuses.source s (grew_between _ _ _ _ (no_fewer _ _ f.faults_handed) g f.faults_left)
     refused_octets k (readers.RefusesReading.few s o n) =
@@ -227,12 +240,12 @@ module _ {C T X : Type 0} (view : C → Reading) (post : Tag → MutBor C → Re
     )
 
     refused_end : (l : Reading) → l.kind ≡ Octets → l.state ≡ Open → l.owed ≡ Some 0 → l.stream.faults ≡ f.handed.stream.faults → RefusesEnd cause_of l e f.left
-        → RefusesAs tag (MeansIn c.mode) (RefusesIn c.mode) c e d
+        → RefusesAs tag (RefusesIn c.mode) c e d
     refused_end l k o z n (left_failed x a) = absurd (open_not_failed l.state o x)
     refused_end l k o z n (source_failed s g) = refusals.Refuses.source s (grew_between _ _ _ _ (no_fewer _ _ (n ∙ f.faults_handed)) g f.faults_left)
-    refused_end l k o z n (left_open x a) = absurd (x.none l.stream.rest (inr (o, of_octets k z)))
+    refused_end l k o z n (left_open x a) = absurd (x l.stream.rest (inr (o, of_octets k z)))
 
-    refused_content : RefusesContent cause_of view post f.front.tag f.handed e f.left → RefusesAs tag (MeansIn c.mode) (RefusesIn c.mode) c e d
+    refused_content : RefusesContent cause_of view post f.front.tag f.handed e f.left → RefusesAs tag (RefusesIn c.mode) c e d
     refused_content (by_closure a) = refused_octets (handed_is_octets f.front.tag f.handed f.left (Err e) a)
         (answered_reads c.mode f.front.tag f.handed f.left (Err e) a f.hands.mode).refused
     refused_content (unfinished y l a m k z) =
@@ -245,18 +258,18 @@ module _ {C T X : Type 0} (view : C → Reading) (post : Tag → MutBor C → Re
     refused_unmarked (unfinished y l a m k z) = k ∙ (answered_reads c.mode f.front.tag f.handed l (Ok y) a f.hands.mode).marked ∙ f.hands.marked
 
   refused_as : (c d : Reading) → Within c → (e : DecodeError X) → RefusesTake view post (Some true) (tagged tag) c e d
-      → RefusesAs tag (MeansIn c.mode) (RefusesIn c.mode) c e d
+      → RefusesAs tag (RefusesIn c.mode) c e d
   refused_as c d w e (by_header (refusals.Refuses.failed s a) m) = refusals.Refuses.failed s a
   refused_as c d w e (by_header (refusals.Refuses.source s g) m) = refusals.Refuses.source s g
   refused_as c d w e (by_header (refusals.Refuses.otherwise n) m) = absurd n
   refused_as c d w e (by_header (refusals.Refuses.nothing n a) m) = refusals.Refuses.nothing
-      (record { usable = n.usable; value = λ contents u rest h. (let x = primitive_header tag c w contents u rest h in n.header x.0 x.1); absent = n.absent })
+      (record { usable = n.usable; value = none_of_primitives tag c (λ contents u rest h. (let x = primitive_header tag c w contents u rest h in n.header x.0 x.1)); absent = n.absent })
       a
   refused_as c d w e (by_form f a m) = refusals.Refuses.nothing (record {
-    usable = f.usable;
-    value = no_other_form tag c f;
-    absent = λ rest. header_not_absent tag c f.after rest f.usable f.front;
-  }) (behind_header (tagged tag) c (cause_of e) a f.after f.front)
+    usable = f.0;
+    value = none_of_primitives tag c (no_other_form tag c f);
+    absent = λ rest. header_not_absent tag c f.1 rest f.0 f.2;
+  }) (behind_header (tagged tag) c (cause_of e) a f.1 f.2)
   refused_as c d w e (by_content f) = refused_content c d w e f f.refuses
 
   -- no mode was changed
@@ -268,7 +281,7 @@ module _ {C T X : Type 0} (view : C → Reading) (post : Tag → MutBor C → Re
   -- ---- what the calls say
 
   pub next_as : (c d : Reading) (r : Result (Option T) (DecodeError X)) → Within c → TakesNext view post (Some true) (tagged tag) c r d
-      → TakesNextAs tag (MeansIn c.mode) (RefusesIn c.mode) c r d
+      → NextBy (tagged tag) (TakesTree tag (InPrimitive (MeansIn c.mode))) (RefusesAs tag (RefusesIn c.mode)) c r d
   next_as c d (Ok (Some x)) w n = record {
     value = taken_as c d w x n.value;
     none = tt;
@@ -291,7 +304,7 @@ module _ {C T X : Type 0} (view : C → Reading) (post : Tag → MutBor C → Re
   }
 
   pub one_as : (c d : Reading) (r : Result T (DecodeError X)) → Within c → Takes view post (Some true) (tagged tag) c r d
-      → TakesOneAs tag (MeansIn c.mode) (RefusesIn c.mode) c r d
+      → OneBy (tagged tag) (TakesTree tag (InPrimitive (MeansIn c.mode))) (RefusesAs tag (RefusesIn c.mode)) c r d
   one_as c d (Ok x) w n =
       record { value = taken_as c d w x n.value; no_fault = taken_faults c d w x n.value; refused = tt; mode = n.mode; marked = taken_marked c d w x n.value }
   one_as c d (Err e) w n = record {
@@ -306,7 +319,7 @@ module _ {C T X : Type 0} (view : C → Reading) (post : Tag → MutBor C → Re
       → PassesNextAs tag (MeansIn c.mode) (RefusesIn c.mode) c (Ok x) d
   passes_as x only c d (Some y) w n =
       record {
-        value = inl (subst (λ z. TakesAs tag (MeansIn c.mode) c z d) (only y) (taken_as c d w y n.value));
+        value = inl (subst (λ z. TakesTree tag (InPrimitive (MeansIn c.mode)) c z d) (only y) (taken_as c d w y n.value));
         no_fault = taken_faults c d w y n.value;
         refused = tt;
         failed = tt;
@@ -332,15 +345,15 @@ module _ {S T X : Type 0} (stream : S → Stream) (sound : (x : S) → IsSound (
     (reads : (p : MutBor (Primitive S)) (r : Result T (DecodeError X)) (q : MutBor (Primitive S)) → post p r q
     → Reads Means Refuses (of_primitive stream p.now) r (of_primitive stream q.now)) (c d : Constructed S) where
   pub reader_takes_one : (r : Result T (DecodeError X))
-      → Takes (of_primitive stream) (Untagged post) (Some true) (tagged tag) (of_constructed stream c) r (of_constructed stream d)
-      → TakesOneAs tag Means Refuses (of_constructed stream c) r (of_constructed stream d)
+      → Takes (of_primitive stream) (λ _. post) (Some true) (tagged tag) (of_constructed stream c) r (of_constructed stream d)
+      → OneBy (tagged tag) (TakesTree tag (InPrimitive Means)) (RefusesAs tag Refuses) (of_constructed stream c) r (of_constructed stream d)
   reader_takes_one r h =
-      one_as (of_primitive stream) (Untagged post) tag (λ _. Means) (λ _. Refuses) (octets_form stream) (λ t p s q x. reads p s q x) (of_constructed stream c)
+      one_as (of_primitive stream) (λ _. post) tag (λ _. Means) (λ _. Refuses) (octets_form stream) (λ t p s q x. reads p s q x) (of_constructed stream c)
       (of_constructed stream d) r (within_constructed stream sound c) h
 
   pub reader_takes_next : (r : Result (Option T) (DecodeError X))
-      → TakesNext (of_primitive stream) (Untagged post) (Some true) (tagged tag) (of_constructed stream c) r (of_constructed stream d)
-      → TakesNextAs tag Means Refuses (of_constructed stream c) r (of_constructed stream d)
+      → TakesNext (of_primitive stream) (λ _. post) (Some true) (tagged tag) (of_constructed stream c) r (of_constructed stream d)
+      → NextBy (tagged tag) (TakesTree tag (InPrimitive Means)) (RefusesAs tag Refuses) (of_constructed stream c) r (of_constructed stream d)
   reader_takes_next r h =
-      next_as (of_primitive stream) (Untagged post) tag (λ _. Means) (λ _. Refuses) (octets_form stream) (λ t p s q x. reads p s q x) (of_constructed stream c)
+      next_as (of_primitive stream) (λ _. post) tag (λ _. Means) (λ _. Refuses) (octets_form stream) (λ t p s q x. reads p s q x) (of_constructed stream c)
       (of_constructed stream d) r (within_constructed stream sound c) h

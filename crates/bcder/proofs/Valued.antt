@@ -16,17 +16,16 @@ use Rattle.bcder.specs.x690.Identifier.{Tag}
 use Rattle.bcder.specs.x690.Length.{IsEndOfContents}
 use Rattle.bcder.specs.x690.Tree.{Tree, primitive, constructed, Trees}
 use Rattle.bcder.specs.x690.OctetString.{AreSegmentsIn}
-use Rattle.bcder.specs.calls.Readers.{HasAll}
 use Rattle.bcder.specs.x690.Encoding.{may_have, IsHeader, IsDefinite, IsFramed, IsEncoding, AreEncodings}
 use Rattle.bcder.specs.calls.Cause.{cause_of}
-use Rattle.bcder.specs.calls.Content.{NothingThere, Reading, ContentForm, values, Octets, DefiniteValues, IndefiniteValues}
+use Rattle.bcder.specs.calls.Content.{NothingThere, Reading, ContentForm, values, Octets}
 use Rattle.bcder.specs.calls.Content.{tagged, label, HasHeader, HasMarker, IsDone}
 use Rattle.bcder.specs.calls.Calls.{Hands, IsFormOf, ContentOf, Answered, TakesValue, RefusesFront, RefusesContent}
 use Rattle.bcder.specs.calls.Calls.{by_closure, unfinished, RefusesEnd, left_failed, source_failed, left_open}
 use Rattle.bcder.specs.calls.Takes.{HasNone, TakesNext, RefusesTake, by_header, by_form, by_content}
-use Rattle.bcder.specs.calls.Walking.{HasValues, ClosesBefore}
+use Rattle.bcder.specs.calls.Walking.{HasValue, HasValues, ClosesBefore}
 use Rattle.bcder.specs.calls.Valued.{HoldsOctets, HoldsValues, HoldsTree, ReadsTree, NeedsMemory, RefusesToRead, ReadsContent, ReadsAny, tag_of, RefusesTree}
-use Rattle.bcder.specs.calls.Valued.{HasTagged, TakesTree, WantsMemoryFor, TakesNextTree, TakesOneTree}
+use Rattle.bcder.specs.calls.Valued.{TakesTree, WantsMemoryFor, TakesNextTree, TakesOneTree}
 use Rattle.bcder.specs.calls.Valued as valued
 use Rattle.bcder.specs.laws.Complete.{one_header, one_list, one_end_of_list}
 use Rattle.bcder.proofs.Moving.{open_not_ended, open_not_failed}
@@ -121,7 +120,7 @@ module _ (mode : Mode) (u : Tag) (form : Bool) (len : Length) (h y : List ℕ) (
       (refl, record { usable = g.state; form = k; owed = o.0; rest = o.1 ∙ ap (take (length b)) e ∙ take_at b x (length b) refl }) in
       subst (HoldsTree u i) (sym is) q
   held t x owed i (of_definite ts b is f l h' e) g =
-      let k : i.kind ≡ DefiniteValues = subst (λ z. IsFormOf z (Definite (length b)) i.kind) f (subst (λ z. IsFormOf form z i.kind) l g.form) in
+      let k : i.kind ≡ values kind.Definite = subst (λ z. IsFormOf z (Definite (length b)) i.kind) f (subst (λ z. IsFormOf form z i.kind) l g.form) in
       let o : (i.owed ≡ Some (length b)) × (i.stream.rest ≡ take (length b) y) = subst (λ z. ContentOf z owed y i.owed i.stream.rest) l g.octets in
       let r : i.stream.rest ≡ b ++ [] = o.1 ∙ ap (take (length b)) e ∙ take_at b x (length b) refl ∙ sym (append-nil b) in
       let c : ClosesBefore i.kind i.mode i.owed b [] = subst (λ z. ClosesBefore z i.mode i.owed b []) (sym k) o.0 in
@@ -129,7 +128,7 @@ module _ (mode : Mode) (u : Tag) (form : Bool) (len : Length) (h y : List ℕ) (
       let q : HoldsTree u i (constructed u ts) = (refl, inl (record { usable = g.state; values = v; are = refl })) in
       subst (HoldsTree u i) (sym is) q
   held t x owed i (of_indefinite ts b end is l h' s e) g =
-      let k : i.kind ≡ IndefiniteValues = subst (λ z. IsFormOf form z i.kind) l g.form in
+      let k : i.kind ≡ values kind.Indefinite = subst (λ z. IsFormOf form z i.kind) l g.form in
       let o : (i.owed ≡ owed) × (i.stream.rest ≡ y) = subst (λ z. ContentOf z owed y i.owed i.stream.rest) l g.octets in
       let m : HasMarker i.mode (end ++ x) x = record { marker = end; is_end = subst (λ z. IsEndOfContents z end) (sym g.mode) s; rest = refl } in
       let c : ClosesBefore i.kind i.mode i.owed b (end ++ x) = subst (λ z. ClosesBefore z i.mode i.owed b (end ++ x)) (sym k) (x, m) in
@@ -170,14 +169,14 @@ module _ (c : Reading) (w : Within c) where
       of_framed (inl d) = header_before t true (Definite (length k.0)) d.header k.0 v after d.is_header d.is (λ n e. definite_inj n (length k.0) (sym e)) r
       of_framed (inr d) = header_before t true Indefinite d.header (k.0 ++ d.end) v after d.is_header d.is (λ n e. absurd (no_number n e)) r
 
-  pub tagged_header : (tag : Tag) (t : Tree) (v after : List ℕ) → HasTagged tag c t v after → (x : List ℕ) × HasHeader (tagged tag) c x
+  pub tagged_header : (tag : Tag) (t : Tree) (v after : List ℕ) → HasValue c t v after × (tag_of t ≡ tag) → (x : List ℕ) × HasHeader (tagged tag) c x
   tagged_header tag t v after h = subst (λ u. (x : List ℕ) × HasHeader (tagged u) c x) h.1 (header_of_value t v after h.0.encodes h.0.rest)
 
 -- ---- taken, or refused
 
 -- behind the header of a primitive value no constructed one is
 pub primitive_in_front : (tag : Tag) (c : Reading) (after : List ℕ) (f : HasHeader (tagged tag) c after) → f.form ≡ false
-    → (t : Tag) (ts : Trees) (v rest : List ℕ) → HasTagged tag c (constructed t ts) v rest → ⊥
+    → (t : Tag) (ts : Trees) (v rest : List ℕ) → HasValue c (constructed t ts) v rest × (t ≡ tag) → ⊥
 primitive_in_front tag c after f p t ts v rest h =
     of_shaped (shaped c.mode f.tag f.form f.len f.octets after f.is_header (constructed t ts) v rest h.0.encodes (sym h.0.rest ∙ f.rest))
   where
@@ -288,7 +287,7 @@ module _ {C T X : Type 0} (view : C → Reading) (post : Tag → MutBor C → Re
 
   module _ (c d : Reading) (w : Within c) (e : DecodeError X) (f : RefusesFront cause_of view post (tagged tag) c e d) where
     -- the content of what stands in front is what was handed
-    held_there : (t : Tree) (v rest : List ℕ) → HasTagged tag c t v rest → HoldsTree f.front.tag f.handed t
+    held_there : (t : Tree) (v rest : List ℕ) → HasValue c t v rest × (tag_of t ≡ tag) → HoldsTree f.front.tag f.handed t
     held_there t v rest h =
         let s = shaped c.mode f.front.tag f.front.form f.front.len f.front.octets f.after f.front.is_header t v rest h.0.encodes
         (sym h.0.rest ∙ f.front.rest) in
@@ -297,7 +296,7 @@ module _ {C T X : Type 0} (view : C → Reading) (post : Tag → MutBor C → Re
     -- what memory is wanted for in the content is there in front
     needed : NeedsMemory f.front.tag (Means c.mode) f.handed f.left → WantsMemoryFor tag (Means c.mode) c
     needed (valued.NeedsMemory.of_octets contents x h m) =
-        let a : HasAll (length f.handed.stream.rest) f.handed = record { owed = h.owed ∙ ap (λ z. Some (length z)) (sym h.rest); count = refl } in
+        let a : f.handed.owed ≡ Some (length f.handed.stream.rest) = h.owed ∙ ap (λ z. Some (length z)) (sym h.rest) in
         let v = handed_value tag c f.handed w f.after f.front f.hands h.form f.usable a _ (handed_before tag c f.handed w f.after f.front f.hands h.form a) in
         valued.WantsMemoryFor.of_value (primitive tag f.handed.stream.rest) _ _ x (record { usable = v.usable; encodes = v.encodes; rest = v.rest }, refl)
         (subst (λ z. Means c.mode (primitive z f.handed.stream.rest) x) f.front.is_asked
@@ -324,7 +323,7 @@ module _ {C T X : Type 0} (view : C → Reading) (post : Tag → MutBor C → Re
         → RefusesTree tag (Means c.mode) c e d
     refused_end l o n (left_failed x a) = absurd (not_done l x o)
     refused_end l o n (source_failed s g) = refusals.Refuses.source s (grew_between _ _ _ _ (no_fewer _ _ (n ∙ f.faults_handed)) g f.faults_left)
-    refused_end l o n (left_open x a) = absurd (x.none l.stream.rest (done_here l l.kind refl o))
+    refused_end l o n (left_open x a) = absurd (x l.stream.rest (done_here l l.kind refl o))
 
     refused_content : RefusesContent cause_of view post f.front.tag f.handed e f.left
         → RefusesTree tag (Means c.mode) c e d
@@ -339,7 +338,7 @@ module _ {C T X : Type 0} (view : C → Reading) (post : Tag → MutBor C → Re
   refused_tree : (c d : Reading) → Within c → (e : DecodeError X) → RefusesTake view post None (tagged tag) c e d
       → RefusesTree tag (Means c.mode) c e d
   refused_tree c d w e (by_header h m) = refused_header tag (Means c.mode) c d w e h
-  refused_tree c d w e (by_form f a m) = absurd f
+  refused_tree c d w e (by_form f a m) = absurd (let y : None ≡ Some f.2.form = f.3 in cc)
   refused_tree c d w e (by_content f) = refused_content c d w e f f.refuses
 
   -- no mode was changed

@@ -10,10 +10,10 @@ use Rattle.bcder.specs.declared.length.Length.TheVariants.{Definite, Indefinite}
 use Rattle.bcder.specs.declared.decode.violation.Violation.TheVariants as v
 use Rattle.bcder.specs.x690.Identifier.{AreOctets, Class, universal, application, context_specific, private, Tag}
 use Rattle.bcder.specs.x690.Identifier.{IsTag, identifier, end_of_contents, is_value_tag}
-use Rattle.bcder.specs.x690.Length.{big_endian, IsLongForm, IsShortest}
+use Rattle.bcder.specs.x690.Length.{big_endian, IsLongForm, IsShortest, IsEndOfContents}
 use Rattle.bcder.specs.x690.Encoding.{may_have}
 use Rattle.bcder.specs.x690.Broken.{EndsInTag, HasTag, HasLength, IsDefinite, EndsInLength, EndsInHeader, LengthNotFewest}
-use Rattle.bcder.specs.calls.Violations.{HasNoEnd, ViolatesFront, tag_not_fewest, tag_too_large, reserved_tag, reserved_length, length_too_large}
+use Rattle.bcder.specs.calls.Violations.{ViolatesFront, tag_not_fewest, tag_too_large, reserved_tag, reserved_length, length_too_large}
 use Rattle.bcder.specs.calls.Violations.{length_not_fewest, primitive_indefinite, indefinite_in_der, definite_in_cer}
 use Rattle.bcder.specs.steps.Reading.{may_tell, read_long, read_length, third_digit, second_digit, read_number, read_identifier, read_header, read_end}
 use Rattle.bcder.specs.steps.Peek.{HasHeaderOctets}
@@ -235,7 +235,7 @@ module _ (mode : Mode) (t : Tag) (f : Bool) (len : Length) (w : List ℕ) (h : H
   of_length : (P : Length → Type 0) → P len → HasLength mode P (h.octets ++ h.others)
   of_length P p = record { len = len; octets = h.octets; others = h.others; tells = h.tells; is = refl; holds = p }
 
-  pub tag_violated : is_value_tag t ≡ false → HasNoEnd mode w → ViolatesFront mode w v.ReservedTag
+  pub tag_violated : is_value_tag t ≡ false → ((end after : List ℕ) → IsEndOfContents mode end → w ≡ end ++ after → ⊥) → ViolatesFront mode w v.ReservedTag
   tag_violated e n = reserved_tag refl (of_form _ (end_tag t e)) n
 
   pub primitive_violated : f ≡ false → len ≡ Indefinite → ViolatesFront mode w v.PrimitiveIndefinite
@@ -272,7 +272,7 @@ header_octets mode w t f y len z x i l = record {
       ∙ ap (λ a. identifier t f ++ a) (append_assoc l.octets z x);
 }
 
-pub no_end : (mode : Mode) (w : List ℕ) → read_end mode w ≡ None → HasNoEnd mode w
+pub no_end : (mode : Mode) (w : List ℕ) → read_end mode w ≡ None → (end after : List ℕ) → IsEndOfContents mode end → w ≡ end ++ after → ⊥
 no_end mode w e end after m s = none_is _ (sym e ∙ ap (read_end mode) s ∙ read_end-complete mode end after m)
 
 -- behind identifier octets, octets that end inside length octets end inside the header

@@ -14,11 +14,11 @@ use Rattle.bcder.specs.x690.Encoding.{IsEncoding, AreEncodings}
 use Rattle.bcder.specs.calls.Stream.{Grew}
 use Rattle.bcder.specs.declared.decode.error.ContentError.{ContentError}
 use Rattle.bcder.specs.calls.Cause.{Cause, of_source, IsOfContent}
-use Rattle.bcder.specs.calls.Content.{Reading, ContentForm, values, Octets, DefiniteValues, IndefiniteValues, any, HasHeader}
+use Rattle.bcder.specs.calls.Content.{Reading, ContentForm, values, Octets, any, HasHeader}
 use Rattle.bcder.specs.calls.Content.{HasMarker, Moves, MovesBy, Falls, FitsOwed, IsDone, IsUsedUp, IsAtEnd, of_octets, of_definite}
-use Rattle.bcder.specs.calls.Content.{of_indefinite, of_unbounded, EndsBefore, NotAtEnd, NothingThere}
+use Rattle.bcder.specs.calls.Content.{of_indefinite, of_unbounded, EndsBefore, NothingThere}
 use Rattle.bcder.specs.calls.Calls.{Hands, IsFormOf, ContentOf, RefusesEnd, left_failed, source_failed, left_open}
-use Rattle.bcder.specs.calls.Walking.{HasNoNext, HasValue, PassesValue, ClosesBefore, HasValues, IsShort, AllBy, Walks, RefusesValues}
+use Rattle.bcder.specs.calls.Walking.{HasNoNext, HasValue, PassesValue, ClosesBefore, HasValues, AllBy, Walks, RefusesValues}
 use Rattle.bcder.specs.laws.Complete.{one_encoding, two_octets, Same}
 use Rattle.bcder.specs.laws.Lists.{First}
 use Rattle.bcder.specs.laws.Moved.{moved_keeps_kind, untouched_is_moved, moved_twice_is_moved}
@@ -67,11 +67,11 @@ module _ (c : Reading) (w : Within c) where
   no_value_of_nothing n = record { none = λ t v after k r. let h = header_there t v after k r in n.header h.0 h.1 }
 
   -- so content is not at its end
-  pub value_not_at_end : (t : Tree) (v after : List ℕ) → HasValue c t v after → NotAtEnd c
+  pub value_not_at_end : (t : Tree) (v after : List ℕ) → HasValue c t v after → (after : List ℕ) → EndsBefore c after → ⊥
   value_not_at_end t v after k = let h = header_there t v after k.encodes k.rest in header_not_at_end c h.0 w k.usable h.1
 
-pub end_of_nothing : (c : Reading) → NothingThere any c → NotAtEnd c
-end_of_nothing c n = record { none = n.absent }
+pub end_of_nothing : (c : Reading) → NothingThere any c → (after : List ℕ) → EndsBefore c after → ⊥
+end_of_nothing c n = n.absent
 
 pub value_once : (c : Reading) (t u : Tree) (v w x y : List ℕ) → HasValue c t v x → HasValue c u w y → Same t u v w x y
 value_once c t u v w x y h k = one_encoding c.mode t u v w x y h.encodes k.encodes (sym h.rest ∙ k.rest)
@@ -91,12 +91,12 @@ ends_before c (values kind.Indefinite) all after q s h e r =
     (h.0, inr (s, of_indefinite q (subst (λ z. HasMarker c.mode z h.0) (sym (r ∙ ap (λ x. x ++ after) e)) h.1)))
 ends_before c (values kind.Unbounded) all after q s h e r = (after, inr (s, of_unbounded q (r ∙ ap (λ x. x ++ after) e ∙ h)))
 
-pub no_next : (c : Reading) → c.state ≡ Open → NoValue c → NotAtEnd c → HasNoNext c
+pub no_next : (c : Reading) → c.state ≡ Open → NoValue c → ((after : List ℕ) → EndsBefore c after → ⊥) → HasNoNext c
 no_next c s n e = record { usable = s; some = e; none = record { none = λ t w after h. n.none t w after h.encodes h.rest } }
 
 pub no_values : (c : Reading) → HasNoNext c → HasValues c → ⊥
 no_values c n h = elim (first_of c.mode h.trees h.all h.encode) [
-  | inl z ↦ (let b = ends_before c c.kind h.all h.after refl n.usable h.closes z h.rest in n.some.none b.0 b.1)
+  | inl z ↦ (let b = ends_before c c.kind h.all h.after refl n.usable h.closes z h.rest in n.some b.0 b.1)
   | inr f ↦ n.none.none f.tree f.front (f.others ++ h.after) (record {
     usable = n.usable;
     encodes = f.first;
@@ -141,7 +141,7 @@ module _ (j k : Reading) (w : Within j) (one : PassesValue j k) (m : MovesBy j k
   pub values_after : HasValues j → HasValues k
   values_after h = elim (first_of j.mode h.trees h.all h.encode) [
     | inl e ↦ absurd (let b = ends_before j j.kind h.all h.after refl one.has.usable h.closes e h.rest in
-        let n = value_not_at_end j w one.tree one.value k.stream.rest one.has in n.none b.0 b.1)
+        let n = value_not_at_end j w one.tree one.value k.stream.rest one.has in n b.0 b.1)
     | inr f ↦ values_more h f
   ]
 
@@ -279,10 +279,10 @@ walks_all i j k o w (inr e) s = w.were (none_left j k.stream.rest (λ q. o (sym 
 form_octets : (f : Bool) (l : Length) (n : ℕ) (k : ContentForm) → f ≡ false → l ≡ Definite n → IsFormOf f l k → k ≡ Octets
 form_octets f l n k a b h = subst (λ x. IsFormOf false x k) b (subst (λ x. IsFormOf x l k) a h)
 
-form_definite : (f : Bool) (l : Length) (n : ℕ) (k : ContentForm) → f ≡ true → l ≡ Definite n → IsFormOf f l k → k ≡ DefiniteValues
+form_definite : (f : Bool) (l : Length) (n : ℕ) (k : ContentForm) → f ≡ true → l ≡ Definite n → IsFormOf f l k → k ≡ values kind.Definite
 form_definite f l n k a b h = subst (λ x. IsFormOf true x k) b (subst (λ x. IsFormOf x l k) a h)
 
-form_indefinite : (f : Bool) (l : Length) (k : ContentForm) → l ≡ Indefinite → IsFormOf f l k → k ≡ IndefiniteValues
+form_indefinite : (f : Bool) (l : Length) (k : ContentForm) → l ≡ Indefinite → IsFormOf f l k → k ≡ values kind.Indefinite
 form_indefinite f l k b h = subst (λ x. IsFormOf f x k) b h
 
 -- the octets that a length counts
@@ -319,13 +319,13 @@ module _ (c i : Reading) (after : List ℕ) (f : HasHeader any c after) (g : Han
             (x, record { marker = e; is_end = subst (λ m. IsEndOfContents m e) (sym g.mode) z; rest = refl });
       })
 
-  short_shape : (x : List ℕ) → i.kind ≡ Octets → IsShort i → Shape c.mode f.form f.len x after → ⊥
+  short_shape : (x : List ℕ) → i.kind ≡ Octets → ((n : ℕ) → i.owed ≡ Some n → length i.stream.rest < n) → Shape c.mode f.form f.len x after → ⊥
   short_shape x k n (is_primitive b a l y) =
       let o = handed_definite b x l y in
-      let s : length i.stream.rest < length b = n.short (length b) o.0 in
+      let s : length i.stream.rest < length b = n (length b) o.0 in
       omega (arith, s, ap length o.1)
-  short_shape x k n (is_definite ts b a l q y) = (let u : Octets ≡ DefiniteValues = sym k ∙ form_definite f.form f.len (length b) i.kind a l g.form in cc)
-  short_shape x k n (is_indefinite ts b e a l q z y) = (let u : Octets ≡ IndefiniteValues = sym k ∙ form_indefinite f.form f.len i.kind l g.form in cc)
+  short_shape x k n (is_definite ts b a l q y) = (let u : Octets ≡ values kind.Definite = sym k ∙ form_definite f.form f.len (length b) i.kind a l g.form in cc)
+  short_shape x k n (is_indefinite ts b e a l q z y) = (let u : Octets ≡ values kind.Indefinite = sym k ∙ form_indefinite f.form f.len i.kind l g.form in cc)
 
   pub shape_in : (t : Tree) (v x : List ℕ) → IsEncoding c.mode t v → c.stream.rest ≡ v ++ x → Shape c.mode f.form f.len x after
   shape_in t v x k r = shape c.mode f.tag f.form f.len f.octets after f.is_header t v x k (sym r ∙ f.rest)
@@ -333,7 +333,7 @@ module _ (c i : Reading) (after : List ℕ) (f : HasHeader any c after) (g : Han
   broken_front : i.kind ≢ Octets → (HasValues i → ⊥) → NoValue c
   broken_front k n = record { none = λ t v x e r. broken_shape x k n (shape_in t v x e r) }
 
-  pub short_front : i.kind ≡ Octets → IsShort i → NoValue c
+  pub short_front : i.kind ≡ Octets → ((n : ℕ) → i.owed ≡ Some n → length i.stream.rest < n) → NoValue c
   short_front k n = record { none = λ t v x e r. short_shape x k n (shape_in t v x e r) }
 
 -- content that is done is at its end
@@ -366,4 +366,4 @@ module _ {E : Type 0} (why : E → Cause ContentError) (e : E) (c d i j : Readin
     let y : i.stream.faults ≤ l.stream.faults = moves_faults i l m in
         let z : c.stream.faults ≤ l.stream.faults = omega arith in grew_between _ _ _ _ z x s,
   )
-  refused_end l q m (left_open x a) = absurd (x.none l.stream.rest (done_here l i.kind (moved_keeps_kind i l m) q))
+  refused_end l q m (left_open x a) = absurd (x l.stream.rest (done_here l i.kind (moved_keeps_kind i l m) q))

@@ -3,7 +3,7 @@ use Rattle.std.proofs.Common.{◌≡◌, ℕ, true, List, length, Result, Ok, Er
 use Rattle.bcder.specs.declared.encode.error.EncodeError.{EncodeError}
 use Rattle.bcder.specs.declared.mode.Mode.{Mode}
 use Rattle.bcder.specs.x690.Identifier.{AreOctets, Tag}
-use Rattle.bcder.specs.calls.Meaning.{Encoded, Meaning, IsOne, IsLawful, encoded_octets}
+use Rattle.bcder.specs.calls.Meaning.{Encoded, Meaning, IsOne, IsLawful}
 use Rattle.bcder.specs.calls.Encoders.{HasEncoding, MeansOctets, SizeOfValues}
 use Rattle.bcder.specs.calls.StringMeaning.{string_meaning, contents_of, OctetsMean, WrappedMeans, is_cut, IsGathered}
 use Rattle.bcder.specs.laws.Octets.{AreOctets-encodings}
@@ -42,7 +42,7 @@ module _ (t : Tag) (mode : Mode) (M : Meaning → Type 0) where
   gathered_as one e meant o w same x h = subst (λ u. OctetsMean t u mode (Ok x)) (sym same) (wrapped_taken one e meant o (Ok x) h)
 
 -- where memory lacks to keep what is meant, there is an encoding, or memory may lack for it
-pub not_kept : {L : Type 0} (M : Meaning → Type 0) → MeansOctets encoded_octets M ⊎ L → L ⊎ HasEncoding M
+pub not_kept : {L : Type 0} (M : Meaning → Type 0) → MeansOctets (λ (e : Encoded). e.octets) M ⊎ L → L ⊎ HasEncoding M
 not_kept M (inl (e, m, some)) = inr (e, m)
 not_kept M (inr l) = inl l
 

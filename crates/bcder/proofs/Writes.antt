@@ -11,8 +11,8 @@ use Rattle.bcder.specs.declared.mode.Mode.{Mode}
 use Rattle.bcder.specs.x690.Identifier.{Tag}
 use Rattle.bcder.specs.x690.Tree.{Tree, constructed, no_trees, ◌∷ₜ◌}
 use Rattle.bcder.specs.x690.Encoding.{IsEncoding, AreEncodings}
-use Rattle.bcder.specs.calls.Meaning.{Encoded, Meaning, encoded_octets, ValueMeans, constructed_meaning, constructed_encoded, fits_enclosed, enclosed_refusal}
-use Rattle.bcder.specs.calls.Encoders.{Writes, WritesValues}
+use Rattle.bcder.specs.calls.Meaning.{Encoded, Meaning, ValueMeans, constructed_meaning, constructed_encoded, fits_enclosed, enclosed_refusal}
+use Rattle.bcder.specs.calls.Encoders.{Writes}
 use Rattle.bcder.specs.calls.Written.{WritesEncodings, EncodesConstructed, AppendsConstructed, WroteConstructed}
 
 pub one_of : (mode : Mode) (t : Tree) (w : List ℕ) → AreEncodings mode (t ∷ₜ no_trees) w → IsEncoding mode t w
@@ -34,19 +34,20 @@ module _ (t : Tag) (mode : Mode) (P : Meaning → Type 0) where
       constructed_is t mode x e (fits_enclosed mode t (length x.octets)) eq (encodes e (inr (v, (Ok x, m, eq))))
 
   appends : (lacks : Type 0) (old new : Option (List ℕ)) (r : Result (Unit {0}) WriteError) → WritesEncodings mode (ValueMeans t (constructed_meaning t mode) P)
-      → Writes encoded_octets (ValueMeans t (constructed_meaning t mode) P) lacks old new r → AppendsConstructed t mode old new r
-  appends lacks old new (Ok u) encodes (inl w) = (w.what.octets, means_constructed encodes w.what w.meant, w.wrote.done)
-  appends lacks old new (Ok u) encodes (inr n) = absurd (let e = n.answered in cc)
+      → Writes (λ (e : Encoded). e.octets) (ValueMeans t (constructed_meaning t mode) P) lacks old new r → AppendsConstructed t mode old new r
+  appends lacks old new (Ok u) encodes (inl w) = (w.0.octets, means_constructed encodes w.0 w.1, w.2.done)
+  appends lacks old new (Ok u) encodes (inr n) = absurd (let e = n.1 in cc)
   appends lacks old new (Err (Target e)) encodes (inl w) =
-      let d = w.wrote.done in
-      inr (w.what.octets, means_constructed encodes w.what w.meant, record { front = d.front; rest = d.rest; appends = d.appends; whole = d.whole })
-  appends lacks old new (Err (Refused e)) encodes (inl w) = inr (w.what.octets, means_constructed encodes w.what w.meant, w.wrote.done.2)
-  appends lacks old new (Err e) encodes (inr n) = inl n.kept
+      let d = w.2.done in
+      inr (w.0.octets, means_constructed encodes w.0 w.1, record { front = d.front; rest = d.rest; appends = d.appends; whole = d.whole })
+  appends lacks old new (Err (Refused e)) encodes (inl w) = inr (w.0.octets, means_constructed encodes w.0 w.1, w.2.done.2)
+  appends lacks old new (Err e) encodes (inr n) = inl n.3
 
 -- by an encoder whose tag is known
 pub wrote_constructed : {W : Type 0} {contents : W → Option (List ℕ)} {target : Both (MutBor W) (MutBor W)} {u : Tag} {mode : Mode}
     {r : Result (Unit {0}) WriteError} (t : Tag) (P : Meaning → Type 0) (lacks : Type 0) → t ≡ u
-    → WritesEncodings mode (ValueMeans t (constructed_meaning t mode) P) → WritesValues contents target (ValueMeans t (constructed_meaning t mode) P) lacks r
+    → WritesEncodings mode (ValueMeans t (constructed_meaning t mode) P) → Writes (λ (e : Encoded). e.octets) (ValueMeans t (constructed_meaning t mode) P) lacks
+    (contents target.entry.now) (contents target.exit.now) r
     → WroteConstructed contents target u mode r
 wrote_constructed {contents = contents} {target = target} {mode = mode} {r = r} t P lacks same encodes w =
     subst (λ z. WroteConstructed contents target z mode r) same
@@ -57,5 +58,5 @@ pub wants_where_it_lacks : {A : Type 0} {octets : A → List ℕ} {M : Result A 
     (r : Result (Unit {0}) WriteError) → Writes octets M lacks old new r → IfErr r (λ e. e ≡ Refused NoMemory → lacks)
 wants_where_it_lacks (Ok u) w = tt
 wants_where_it_lacks (Err (Target e)) w = λ is. cc
-wants_where_it_lacks (Err (Refused e)) (inl w) = λ is. w.wrote.done.1
-wants_where_it_lacks (Err (Refused e)) (inr n) = λ is. n.refuses.lacking (let at = n.answered in cc)
+wants_where_it_lacks (Err (Refused e)) (inl w) = λ is. w.2.done.1
+wants_where_it_lacks (Err (Refused e)) (inr n) = λ is. n.2.lacking (let at = n.1 in cc)

@@ -3,6 +3,7 @@ pub mod SegmentTable
 pub mod Segments
 pub mod Pushed
 pub mod Reading
+pub mod Remaining
 pub mod StopCause
 pub mod Peek
 pub mod Entering

@@ -3,7 +3,10 @@ ghost use Rattle.std.specs.Prelude.{◌≡◌, [], IfOk, IfErr, OnErr};
 ghost use Rattle.bcder.specs.calls.Captured.{AreWhole, kept_stream};
 ghost use Rattle.bcder.specs.calls.Captured.{CallableOnKept, LawfulOnKept, DecodesPart};
 ghost use Rattle.bcder.specs.calls.Captured.{RefusesPart};
-ghost use Rattle.bcder.specs.calls.Decoding.{CallableOnAll, LawfulOnAll, DecodesAll, RefusesAll};
+ghost use Rattle.bcder.specs.calls.Calls.{MayBeCalledOn, IsLawfulOn};
+ghost use Rattle.bcder.specs.calls.Cause.{cause_of};
+ghost use Rattle.bcder.specs.calls.Decoding.{IsAllOf, Decodes, RefusesDecode};
+ghost use Rattle.bcder.specs.calls.Stream.{Stream};
 ghost use Rattle.bcder.specs.calls.DecodingAll.{DecodesWhole, RefusesWhole};
 ghost use Rattle.bcder.specs.calls.Views.{of_constructed};
 ghost use Rattle.bcder.specs.calls.Gathered.{none_kept, from_start, GathersValues};
@@ -147,14 +150,16 @@ impl Captured {
     pub fn decode<F, T: Drop>(self, op: F) -> Result<T, DecodeError<Infallible>>
     where
         F: FnOnce(&mut Constructed<'_, BytesSource>) -> Result<T, DecodeError<Infallible>>,
-        requires callable { CallableOnAll ⟦<BytesSource as Source>⟧.stream
-            (kept_stream self) self.mode (F.pre op) }
-        requires lawful { LawfulOnAll ⟦<BytesSource as Source>⟧.stream
-            (kept_stream self) self.mode (F.post op) }
-        ensures ok { DecodesAll ⟦<BytesSource as Source>⟧.stream (F.post op)
-            (kept_stream self) self.mode result }
-        ensures refused { RefusesAll ⟦<BytesSource as Source>⟧.stream (F.post op)
-            (kept_stream self) self.mode result }
+        requires callable { MayBeCalledOn (of_constructed ⟦<BytesSource as Source>⟧.stream)
+            (IsAllOf (kept_stream self) self.mode) (F.pre op) }
+        requires lawful { IsLawfulOn (of_constructed ⟦<BytesSource as Source>⟧.stream)
+            (IsAllOf (kept_stream self) self.mode) (F.post op) }
+        ensures ok { IfOk result (λ x. (left : Stream)
+            × Decodes (of_constructed ⟦<BytesSource as Source>⟧.stream) (F.post op)
+            (kept_stream self) self.mode x left) }
+        ensures refused { IfErr result (λ e. (left : Stream)
+            × RefusesDecode cause_of (of_constructed ⟦<BytesSource as Source>⟧.stream) (F.post op)
+            (kept_stream self) self.mode e left) }
     {
         let mode = self.mode;
         Constructed::decode(self, mode, op)
@@ -169,10 +174,10 @@ impl Captured {
     pub fn decode_all<F, T: Drop>(self, op: F) -> Result<T, DecodeError<Infallible>>
     where
         F: FnOnce(&mut Constructed<'_, BytesSource>) -> Result<T, DecodeError<Infallible>>,
-        requires callable { CallableOnAll ⟦<BytesSource as Source>⟧.stream
-            (kept_stream self) self.mode (F.pre op) }
-        requires lawful { LawfulOnAll ⟦<BytesSource as Source>⟧.stream
-            (kept_stream self) self.mode (F.post op) }
+        requires callable { MayBeCalledOn (of_constructed ⟦<BytesSource as Source>⟧.stream)
+            (IsAllOf (kept_stream self) self.mode) (F.pre op) }
+        requires lawful { IsLawfulOn (of_constructed ⟦<BytesSource as Source>⟧.stream)
+            (IsAllOf (kept_stream self) self.mode) (F.post op) }
         ensures ok { IfOk result (λ x.
             DecodesWhole (of_constructed ⟦<BytesSource as Source>⟧.stream) (F.post op)
             (kept_stream self) self.mode x) }

@@ -1,10 +1,11 @@
 //! The encoding rules of X.690.
 ghost use Rattle.std.specs.Prelude.{◌≡◌, ◌↔◌, ◌≤◌, ◌++◌, ℕ, List, IsTrue, IfOk, IfErr};
-ghost use Rattle.bcder.specs.calls.Decoding.{CallableOnAll, LawfulOnAll, CallableOnLent};
-ghost use Rattle.bcder.specs.calls.Decoding.{LawfulOnLent};
-ghost use Rattle.bcder.specs.calls.Decoding.{DecodesAll, RefusesAll, DecodesLent, RefusesLent};
+ghost use Rattle.bcder.specs.calls.Calls.{MayBeCalledOn, IsLawfulOn};
+ghost use Rattle.bcder.specs.calls.Cause.{cause_of};
+ghost use Rattle.bcder.specs.calls.Decoding.{IsAllOf, IsAllBehind, Decodes, RefusesDecode};
 ghost use Rattle.bcder.specs.calls.DecodingAll.{DecodesWhole, RefusesWhole};
-ghost use Rattle.bcder.specs.calls.Views.{of_constructed};
+ghost use Rattle.bcder.specs.calls.Stream.{Stream, borrowed};
+ghost use Rattle.bcder.specs.calls.Views.{of_constructed, lent};
 
 use crate::decode::{Constructed, DecodeError, IntoSource, Source};
 
@@ -42,10 +43,15 @@ impl Mode {
         F: FnOnce(
             &mut Constructed<'_, I::Source>,
         ) -> Result<T, DecodeError<<I::Source as Source>::Error>>,
-        requires callable { CallableOnAll I.Source.stream (I.gives source) self (F.pre op) }
-        requires lawful { LawfulOnAll I.Source.stream (I.gives source) self (F.post op) }
-        ensures ok { DecodesAll I.Source.stream (F.post op) (I.gives source) self result }
-        ensures refused { RefusesAll I.Source.stream (F.post op) (I.gives source) self result }
+        requires callable { MayBeCalledOn (of_constructed I.Source.stream)
+            (IsAllOf (I.gives source) self) (F.pre op) }
+        requires lawful { IsLawfulOn (of_constructed I.Source.stream)
+            (IsAllOf (I.gives source) self) (F.post op) }
+        ensures ok { IfOk result (λ x. (left : Stream)
+            × Decodes (of_constructed I.Source.stream) (F.post op) (I.gives source) self x left) }
+        ensures refused { IfErr result (λ e. (left : Stream)
+            × RefusesDecode cause_of (of_constructed I.Source.stream) (F.post op)
+            (I.gives source) self e left) }
     {
         Constructed::decode(source, self, op)
     }
@@ -68,8 +74,10 @@ impl Mode {
         F: FnOnce(
             &mut Constructed<'_, I::Source>,
         ) -> Result<T, DecodeError<<I::Source as Source>::Error>>,
-        requires callable { CallableOnAll I.Source.stream (I.gives source) self (F.pre op) }
-        requires lawful { LawfulOnAll I.Source.stream (I.gives source) self (F.post op) }
+        requires callable { MayBeCalledOn (of_constructed I.Source.stream)
+            (IsAllOf (I.gives source) self) (F.pre op) }
+        requires lawful { IsLawfulOn (of_constructed I.Source.stream)
+            (IsAllOf (I.gives source) self) (F.post op) }
         ensures ok { IfOk result (λ x.
             DecodesWhole (of_constructed I.Source.stream) (F.post op) (I.gives source) self x) }
         ensures refused { IfErr result (λ e.
@@ -92,10 +100,16 @@ impl Mode {
     ) -> Result<T, DecodeError<S::Error>>
     where
         F: FnOnce(&mut Constructed<'_, &mut S>) -> Result<T, DecodeError<S::Error>>,
-        requires callable { CallableOnLent S.stream source self (F.pre op) }
-        requires lawful { LawfulOnLent S.stream source self (F.post op) }
-        ensures ok { DecodesLent S.stream (F.post op) source self result }
-        ensures refused { RefusesLent S.stream (F.post op) source self result }
+        requires callable { MayBeCalledOn (of_constructed (lent S.stream))
+            (IsAllBehind (S.stream source.old) self) (F.pre op) }
+        requires lawful { IsLawfulOn (of_constructed (lent S.stream))
+            (IsAllBehind (S.stream source.old) self) (F.post op) }
+        ensures ok { IfOk result (λ x. (name : ℕ)
+            × Decodes (of_constructed (lent S.stream)) (F.post op)
+            (borrowed name (S.stream source.old)) self x (borrowed name (S.stream source.new))) }
+        ensures refused { IfErr result (λ e. (name : ℕ)
+            × RefusesDecode cause_of (of_constructed (lent S.stream)) (F.post op)
+            (borrowed name (S.stream source.old)) self e (borrowed name (S.stream source.new))) }
         ensures passed { (passed : List ℕ)
             × ((S.stream source.old).rest ≡ passed ++ (S.stream source.new).rest) }
         ensures faults { (S.stream source.old).faults ≤ (S.stream source.new).faults }

@@ -13,7 +13,8 @@ use Rattle.bcder.specs.x690.OctetString.{octet_string_tag}
 use Rattle.bcder.specs.x690.Tree.{Trees}
 use Rattle.bcder.specs.x690.Encoding.{AreEncodings}
 use Rattle.bcder.specs.calls.Stream.{Stream, Grew}
-use Rattle.bcder.specs.calls.Content.{Reading, UnboundedValues, IsDone}
+use Rattle.bcder.specs.declared.decode.content.Kind.TheVariants as kind
+use Rattle.bcder.specs.calls.Content.{Reading, IsDone, values}
 use Rattle.bcder.specs.calls.Walking.{ClosesBefore, HasValues, RefusesValues, AllBy}
 use Rattle.bcder.specs.calls.Skipping.{RefusesSkipAll}
 use Rattle.bcder.specs.calls.Skipping as skipping
@@ -90,7 +91,7 @@ done_not_failed c (inl h) f = cc
 done_not_failed c (inr h) f = let x = h.0 in cc
 
 -- values up to the end of unbounded content are all of its octets
-values_there : (i : Reading) (mode : Mode) (w : List ℕ) (ts : Trees) → i.kind ≡ UnboundedValues → i.mode ≡ mode → i.stream.rest ≡ w
+values_there : (i : Reading) (mode : Mode) (w : List ℕ) (ts : Trees) → i.kind ≡ values kind.Unbounded → i.mode ≡ mode → i.stream.rest ≡ w
     → AreEncodings mode ts w → HasValues i
 values_there i mode w ts k m r a = record {
   trees = ts;
@@ -101,7 +102,7 @@ values_there i mode w ts k m r a = record {
   closes = subst (λ z. ClosesBefore z i.mode i.owed w []) (sym k) refl;
 }
 
-values_list : (i : Reading) (mode : Mode) (w : List ℕ) → i.kind ≡ UnboundedValues → i.mode ≡ mode → i.stream.rest ≡ w → HasValues i → IsList mode w
+values_list : (i : Reading) (mode : Mode) (w : List ℕ) → i.kind ≡ values kind.Unbounded → i.mode ≡ mode → i.stream.rest ≡ w → HasValues i → IsList mode w
 values_list i mode w k m r h =
     let n : h.after ≡ [] = subst (λ z. ClosesBefore z i.mode i.owed h.all h.after) k h.closes in
     let e : h.all ≡ w = sym (append-nil h.all) ∙ ap (λ z. h.all ++ z) (sym n) ∙ sym h.rest ∙ r in
@@ -116,7 +117,7 @@ module _ {C T S : Type 0} (view : C → Reading) (post : MutBor C → Result T (
   pub skipped_list : (x : T) (s' : Stream) → Decodes view post s mode x s' → IsList mode s.rest
   skipped_list x s' d =
       let g = k d.answered.handed (Ok x) d.answered.left d.answered.called in
-      all_of d.handed d.hands.over (subst (λ z. z.state ≡ Open → HasValues z) d.answered.handed_is g.all)
+      all_of d.handed d.over (subst (λ z. z.state ≡ Open → HasValues z) d.answered.handed_is g.all)
 
   no_values : (e : DecodeError S) (i j : Reading) → (cause_of e ≡ of_memory → ⊥) → IsAllOf s mode i → j.stream.faults ≡ 0 → RefusesValues cause_of i e j
       → IsNoList mode s.rest
@@ -139,4 +140,4 @@ module _ {C T S : Type 0} (view : C → Reading) (post : MutBor C → Result T (
   none_on e i j n o (decoding.left_failed x a z y) = absurd (done_not_failed j (subst IsDone a.left_is (k a.handed (Ok x) a.left a.called).done) z)
 
   pub refused_list : (e : DecodeError S) (s' : Stream) → (cause_of e ≡ of_memory → ⊥) → RefusesDecode cause_of view post s mode e s' → IsNoList mode s.rest
-  refused_list e s' n d = none_on e d.handed d.left n d.hands.over d.refuses
+  refused_list e s' n d = none_on e d.handed d.left n d.over d.refuses

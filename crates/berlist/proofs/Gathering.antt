@@ -14,7 +14,8 @@ use Rattle.bcder.specs.declared.decode.source.slice.SliceSource.{SliceSource}
 use Rattle.bcder.specs.x690.Tree.{Tree, Trees, no_trees, ◌∷ₜ◌}
 use Rattle.bcder.specs.x690.Encoding.{AreEncodings}
 use Rattle.bcder.specs.x690.Preorder.{Heading, preorder, preorders}
-use Rattle.bcder.specs.calls.Content.{Reading, Octets, UnboundedValues, Moves, IsDone, EndsBefore}
+use Rattle.bcder.specs.declared.decode.content.Kind.TheVariants as kind
+use Rattle.bcder.specs.calls.Content.{Reading, Octets, Moves, IsDone, EndsBefore, values}
 use Rattle.bcder.specs.calls.Walking.{ClosesBefore, HasValues, Walks}
 use Rattle.bcder.specs.calls.Skipping.{Steps, Called, SkipsValue, RefusesSkip}
 use Rattle.bcder.specs.calls.Skipping as skipping
@@ -132,7 +133,7 @@ when_none P Q r e m = subst (λ r. MatchOption r P Q) e m
 -- ---- all octets
 
 -- values up to the end of unbounded content are all of its octets
-pub values_there : (i : Reading) (mode : Mode) (w : List ℕ) (ts : Trees) → i.kind ≡ UnboundedValues → i.mode ≡ mode → i.stream.rest ≡ w
+pub values_there : (i : Reading) (mode : Mode) (w : List ℕ) (ts : Trees) → i.kind ≡ values kind.Unbounded → i.mode ≡ mode → i.stream.rest ≡ w
     → AreEncodings mode ts w → HasValues i
 values_there i mode w ts k m r a = record {
   trees = ts;
@@ -183,4 +184,4 @@ module _ {C T S : Type 0} (view : C → Reading) (post : MutBor C → Result T (
   none_listed e i j n o (decoding.left_failed x a z y) = absurd (done_not_failed j (subst IsDone a.left_is (k a.handed (Ok x) a.left a.called).done) z)
 
   pub refuses_all : (e : DecodeError S) (s' : Stream) → (IsWant e → ⊥) → RefusesDecode cause_of view post s mode e s' → IsNoList mode s.rest
-  refuses_all e s' n d = none_listed e d.handed d.left n d.hands.over d.refuses
+  refuses_all e s' n d = none_listed e d.handed d.left n d.over d.refuses

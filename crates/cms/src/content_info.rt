@@ -267,7 +267,7 @@ impl EncodeParts for EncryptedContentInfo {
 ///
 ///     UnprotectedAttributes ::= SET SIZE (1..MAX) OF Attribute
 ///
-/// Any version of 0 to 255 is read, and an empty set is too.
+/// Any version from 0 to 255 is read, and an empty set is too.
 #[derive(Debug, Drop)]
 pub struct EncryptedData {
     /// The version.

@@ -24,7 +24,7 @@ use std::alloc::Global;
 ///
 ///     UnprotectedAttributes ::= SET SIZE (1..MAX) OF Attribute
 ///
-/// Any version of 0 to 255 is read, and empty sets are too.
+/// Any version from 0 to 255 is read, and empty sets are too.
 #[derive(Debug, Drop)]
 pub struct EnvelopedData {
     /// The version.

@@ -25,7 +25,7 @@ use std::alloc::Global;
 ///
 ///     RecipientEncryptedKeys ::= SEQUENCE OF RecipientEncryptedKey
 ///
-/// Any version of 0 to 255 is read.
+/// Any version from 0 to 255 is read.
 #[derive(Debug, Drop)]
 pub struct KeyAgreeRecipientInfo {
     /// The version, which is 3.

@@ -138,7 +138,7 @@ impl EncodeParts for RecipientInfo {
 ///
 ///     EncryptedKey ::= OCTET STRING
 ///
-/// Any version of 0 to 255 is read.
+/// Any version from 0 to 255 is read.
 #[derive(Debug, Drop)]
 pub struct KeyTransRecipientInfo {
     /// 0 with the issuer and serial number of a certificate, 2 with a key identifier.
@@ -251,7 +251,7 @@ pub type RecipientIdentifier = SignerIdentifier;
 ///         keyEncryptionAlgorithm  KeyEncryptionAlgorithmIdentifier,
 ///         encryptedKey            EncryptedKey }
 ///
-/// Any version of 0 to 255 is read.
+/// Any version from 0 to 255 is read.
 #[derive(Debug, Drop)]
 pub struct PasswordRecipientInfo {
     /// The version, which is 0.

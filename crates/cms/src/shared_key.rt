@@ -18,7 +18,7 @@ use std::alloc::Global;
 ///         keyEncryptionAlgorithm  KeyEncryptionAlgorithmIdentifier,
 ///         encryptedKey            EncryptedKey }
 ///
-/// Any version of 0 to 255 is read.
+/// Any version from 0 to 255 is read.
 #[derive(Debug, Drop)]
 pub struct KekRecipientInfo {
     /// The version, which is 4.

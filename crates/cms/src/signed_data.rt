@@ -33,7 +33,7 @@ use std::alloc::Global;
 ///     RevocationInfoChoices ::= SET OF RevocationInfoChoice
 ///
 /// Certificates and lists are kept as they are. They decode as [`Certificate`](pkix::Certificate)
-/// and [`CertificateList`](pkix::CertificateList), or are of other kinds. Any version of 0 to 255 is
+/// and [`CertificateList`](pkix::CertificateList), or are of other kinds. Any version from 0 to 255 is
 /// read.
 #[derive(Debug, Drop)]
 pub struct SignedData {

@@ -16,6 +16,7 @@
 mod certificate;
 mod compared;
 mod document;
+mod extension_values;
 mod fields;
 mod list;
 mod named;

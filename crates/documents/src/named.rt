@@ -1,4 +1,5 @@
 //! Structures that hold names of hosts and mailboxes, or character strings.
+use crate::extension_values::compare_extension_value;
 use crate::structures::{Tallies, compare};
 use anyhow::Error;
 use general_names::{DirectoryString, GeneralName, GeneralNames};
@@ -21,9 +22,6 @@ pub fn compare_named(
         "TSTInfo" => compare::<TstInfo>(alloc, octets, is_one, tallies),
         "TimeStampResp" => compare::<TimeStampResp>(alloc, octets, is_one, tallies),
         "Manifest" => compare::<Manifest>(alloc, octets, is_one, tallies),
-        _ => {
-            tallies.read.count(false);
-            Ok(())
-        }
+        _ => compare_extension_value(alloc, kind, octets, is_one, tallies),
     }
 }

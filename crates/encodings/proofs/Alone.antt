@@ -35,7 +35,7 @@ module _ {C T X : Type 0} (view : C → Reading) (post : MutBor C → Result T (
       inner own x means p q is (few s k n) =
           let rest : (view p.now).stream.rest ≡ w = ap (λ i. i.stream.rest) is ∙ ap (λ s. s.rest) ran.over.stream ∙ take_all (length w) w (omega arith) in
           let owed : (view p.now).owed ≡ Some (length w) = ap (λ i. i.owed) is ∙ ran.over.owed in
-          omega (arith, s.short (length w) owed, ap length rest)
+          omega (arith, s (length w) owed, ap length rest)
       inner own x means p q is (refused a n f) =
           let rest : (view p.now).stream.rest ≡ w = ap (λ i. i.stream.rest) is ∙ ap (λ s. s.rest) ran.over.stream ∙ take_all (length w) w (omega arith) in
           let mode : (view p.now).mode ≡ m = ap (λ i. i.mode) is ∙ ran.over.mode in

@@ -16,6 +16,8 @@ use std::alloc::Global;
 ///         privateKey  OCTET STRING,
 ///         parameters  [0] EXPLICIT ECParameters {{ NamedCurve }} OPTIONAL,
 ///         publicKey   [1] EXPLICIT BIT STRING OPTIONAL }
+///
+/// Any version from 0 to 255 is read.
 #[derive(Debug, Drop)]
 pub struct EcPrivateKey {
     /// The version, which is 1.

@@ -11,6 +11,7 @@ mod certificate;
 mod certificate_list;
 mod certification_request;
 mod constraints;
+mod directory_attributes;
 mod elliptic_curve;
 mod extension;
 mod key_identifiers;
@@ -18,6 +19,7 @@ mod key_usage;
 mod name;
 mod policies;
 mod private_key;
+mod revocation;
 mod rsa;
 mod tbs_cert_list;
 mod tbs_certificate;
@@ -29,16 +31,18 @@ pub use certificate::Certificate;
 pub use certificate_list::CertificateList;
 pub use certification_request::{Attribute, CertificationRequest, CertificationRequestInfo};
 pub use constraints::{BasicConstraints, NoCa};
+pub use directory_attributes::SubjectDirectoryAttributes;
 pub use elliptic_curve::{DssParms, DssSigValue, EcParameters, EcPrivateKey, EcdsaSigValue};
 pub use extension::{Extension, Extensions, NotCritical};
 pub use key_identifiers::{KeyIdentifier, SubjectKeyIdentifier};
-pub use key_usage::ExtKeyUsage;
+pub use key_usage::{ExtKeyUsage, KeyUsage};
 pub use name::{AttributeTypeAndValue, Name, RelativeDistinguishedName};
 pub use policies::{
     CertPolicyId, CertificatePolicies, InhibitAnyPolicy, PolicyConstraints, PolicyInformation,
     PolicyMapping, PolicyMappings, PolicyQualifierInfo,
 };
 pub use private_key::{EncryptedPrivateKeyInfo, PrivateKeyInfo};
+pub use revocation::{BaseCrlNumber, CrlNumber, CrlReason, InvalidityDate, ReasonCode};
 pub use rsa::{DigestInfo, OtherPrimeInfo, RsaPrivateKey, RsaPublicKey};
 pub use tbs_cert_list::{RevokedCertificate, TbsCertList};
 pub use tbs_certificate::{TbsCertificate, UniqueIdentifier, Version, Version1};

@@ -28,6 +28,8 @@ use std::alloc::Global;
 ///     PublicKey ::= BIT STRING
 ///
 ///     Attributes ::= SET OF Attribute
+///
+/// Any version from 0 to 255 is read.
 #[derive(Debug, Drop)]
 pub struct PrivateKeyInfo {
     /// 0 is the first version, and 1 the second, which may have a public key.

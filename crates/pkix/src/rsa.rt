@@ -97,6 +97,8 @@ impl EncodeParts for RsaPublicKey {
 ///         otherPrimeInfos  OtherPrimeInfos OPTIONAL }
 ///
 ///     OtherPrimeInfos ::= SEQUENCE SIZE (1..MAX) OF OtherPrimeInfo
+///
+/// Any version from 0 to 255 is read.
 #[derive(Debug, Drop)]
 pub struct RsaPrivateKey {
     /// 0 with two primes, and 1 with more.

@@ -14,6 +14,8 @@ use std::alloc::Global;
 /// 4.1.2.1).
 ///
 ///     Version ::= INTEGER { v1(0), v2(1), v3(2) }
+///
+/// Any number from 0 to 255 is read.
 pub type Version = u8;
 
 /// `v1`, if no version is written.

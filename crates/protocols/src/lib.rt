@@ -18,7 +18,7 @@ mod time_stamp;
 mod time_stamp_response;
 mod tst_info;
 
-pub use cert_status::{CertStatus, CrlReason, RevokedInfo};
+pub use cert_status::{CertStatus, RevokedInfo};
 pub use manifest::{FileAndHash, Manifest};
 pub use ocsp::{CertId, SingleRequest};
 pub use ocsp_request::{OcspRequest, OcspSignature, TbsRequest};

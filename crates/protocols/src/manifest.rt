@@ -20,6 +20,8 @@ use std::alloc::Global;
 ///         nextUpdate      GeneralizedTime,
 ///         fileHashAlg     OBJECT IDENTIFIER,
 ///         fileList        SEQUENCE SIZE (0..MAX) OF FileAndHash }
+///
+/// Any version from 0 to 255 is read, and a negative number is too.
 #[derive(Debug, Drop)]
 pub struct Manifest {
     /// The version, where 0 is the first.

@@ -12,14 +12,14 @@ use general_names::GeneralName;
 use pkix::{AlgorithmIdentifier, Extensions, Version, Version1};
 use std::alloc::Global;
 
-/// A question whether certificates are revoked (RFC 6960, section 4.1.1).
+/// A request to say whether certificates are revoked (RFC 6960, section 4.1.1).
 ///
 ///     OCSPRequest ::= SEQUENCE {
 ///         tbsRequest         TBSRequest,
 ///         optionalSignature  [0] EXPLICIT Signature OPTIONAL }
 #[derive(Debug, Drop)]
 pub struct OcspRequest {
-    /// The question.
+    /// The request.
     pub tbs_request: TbsRequest,
 
     /// The signature, if there is one.
@@ -84,13 +84,15 @@ impl EncodeParts for OcspRequest {
     ghost made = { λ v. (record { tbs_request = v.0; optional_signature = v.1 }, refl) };
 }
 
-/// What is signed of a question (RFC 6960, section 4.1.1).
+/// What is signed of a request (RFC 6960, section 4.1.1).
 ///
 ///     TBSRequest ::= SEQUENCE {
 ///         version            [0] EXPLICIT Version DEFAULT v1,
 ///         requestorName      [1] EXPLICIT GeneralName OPTIONAL,
 ///         requestList        SEQUENCE OF Request,
 ///         requestExtensions  [2] EXPLICIT Extensions OPTIONAL }
+///
+/// Any version from 0 to 255 is read.
 #[derive(Debug, Drop)]
 pub struct TbsRequest {
     /// The version, where 0 is the first.
@@ -191,7 +193,7 @@ impl EncodeParts for TbsRequest {
     ) };
 }
 
-/// The signature of a question: `Signature` in the RFC (RFC 6960, section 4.1.1).
+/// The signature of a request: `Signature` in the RFC (RFC 6960, section 4.1.1).
 ///
 ///     Signature ::= SEQUENCE {
 ///         signatureAlgorithm  AlgorithmIdentifier,

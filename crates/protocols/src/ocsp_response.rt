@@ -342,6 +342,8 @@ impl EncodeParts for BasicOcspResponse {
 ///         producedAt          GeneralizedTime,
 ///         responses           SEQUENCE OF SingleResponse,
 ///         responseExtensions  [1] EXPLICIT Extensions OPTIONAL }
+///
+/// Any version from 0 to 255 is read.
 #[derive(Debug, Drop)]
 pub struct ResponseData {
     /// The version, where 0 is the first.

@@ -18,6 +18,8 @@ use std::alloc::Global;
 ///         version   INTEGER { v3(3) }(v3, ...),
 ///         authSafe  ContentInfo,
 ///         macData   MacData OPTIONAL }
+///
+/// Any version from 0 to 255 is read.
 #[derive(Debug, Drop)]
 pub struct Pfx {
     /// The version, which is 3.

@@ -18,6 +18,8 @@ use std::alloc::Global;
 ///         ipAddrBlocks  SEQUENCE (SIZE(1..2)) OF ROAIPAddressFamily }
 ///
 ///     ASID ::= INTEGER (0..4294967295)
+///
+/// Any version from 0 to 255 is read, and any number of families of addresses.
 #[derive(Debug, Drop)]
 pub struct RouteOriginAttestation {
     /// The version, where 0 is the first.

@@ -91,6 +91,8 @@ impl EncodeParts for MessageImprint {
 ///         nonce           INTEGER OPTIONAL,
 ///         certReq         BOOLEAN DEFAULT FALSE,
 ///         extensions      [0] IMPLICIT Extensions OPTIONAL }
+///
+/// Any version from 0 to 255 is read.
 #[derive(Debug, Drop)]
 pub struct TimeStampReq {
     /// The version, which is 1.

@@ -97,6 +97,8 @@ impl EncodeParts for TimeStampResp {
 ///     PKIFreeText ::= SEQUENCE SIZE (1..MAX) OF UTF8String
 ///
 ///     PKIFailureInfo ::= BIT STRING { badAlg (0), .. }
+///
+/// Any status from 0 to 255 is read, and an empty list of texts is too.
 #[derive(Debug, Drop)]
 pub struct PkiStatusInfo {
     /// 0 or 1 if it was.

@@ -29,7 +29,7 @@ use std::alloc::Global;
 ///
 ///     TSAPolicyId ::= OBJECT IDENTIFIER
 ///
-/// `GeneralName` is a CHOICE, so its tag is explicit.
+/// `GeneralName` is a CHOICE, so its tag is explicit. Any version from 0 to 255 is read.
 #[derive(Debug, Drop)]
 pub struct TstInfo {
     /// The version, which is 1.
@@ -225,7 +225,7 @@ impl DefaultValue<bool> for NotOrdered {
 ///         millis   [0] INTEGER (1..999) OPTIONAL,
 ///         micros   [1] INTEGER (1..999) OPTIONAL }
 ///
-/// Other numbers of 16 bits are read too.
+/// Seconds that take more than 32 bits are refused. The other two may be any number of 16 bits.
 #[derive(Debug, Drop)]
 pub struct Accuracy {
     /// Seconds.

@@ -8,7 +8,7 @@ use Rattle.bcder.specs.declared.encode.error.WriteError.{WriteError}
 use Rattle.bcder.specs.declared.mode.Mode.TheVariants.{Ber}
 use Rattle.bcder.specs.x690.Identifier.{Tag, identifier, null_tag, IsValueTag}
 use Rattle.bcder.specs.x690.Octets.{definite_length}
-use Rattle.bcder.specs.calls.Meaning.{Encoded, IsOne, Exactly, encoded_octets, ValueMeans, primitive_encoded, primitive_meaning}
+use Rattle.bcder.specs.calls.Meaning.{Encoded, IsOne, Exactly, ValueMeans, primitive_encoded, primitive_meaning}
 use Rattle.bcder.specs.calls.Joined.{nothing, join, Then, NoValues, Joined}
 use Rattle.bcder.specs.calls.Encoders.{WroteOf, Writes, WritesEncoding, SizeOfValues, RefusesBy}
 use Rattle.bcder.specs.laws.Octets.{AreOctets-nil}
@@ -50,11 +50,11 @@ pub null_one : IsOne NullMeans
 null_one = (primitive_lawful null_tag Ber (Exactly_lawful [] AreOctets-nil)).one
 
 pub null_written : {old new : Option (List ℕ)} {r : Result (Unit {0}) WriteError} (t : Tag) → t ≡ null_tag
-    → Writes encoded_octets (ValueMeans t (primitive_meaning t) (Exactly [])) ⊥ old new r → WritesEncoding NullMeans ⊥ old new r
+    → Writes (λ (e : Encoded). e.octets) (ValueMeans t (primitive_meaning t) (Exactly [])) ⊥ old new r → WritesEncoding NullMeans ⊥ old new r
 null_written {old} {new} {r} t is w = λ e m.
-    let written : Writes encoded_octets NullMeans ⊥ old new r =
-    subst (λ t. Writes encoded_octets (ValueMeans t (primitive_meaning t) (Exactly [])) ⊥ old new r) is w in
-    wrote_what_is_meant NullMeans null_one.same encoded_octets ⊥ e old new r m written
+    let written : Writes (λ (e : Encoded). e.octets) NullMeans ⊥ old new r =
+    subst (λ t. Writes (λ (e : Encoded). e.octets) (ValueMeans t (primitive_meaning t) (Exactly [])) ⊥ old new r) is w in
+    wrote_what_is_meant NullMeans null_one.same (λ (e : Encoded). e.octets) ⊥ e old new r m written
 
 abbrev null : Encoded
 null = primitive_encoded null_tag []

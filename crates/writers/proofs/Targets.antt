@@ -14,7 +14,7 @@ use Rattle.bcder.specs.calls.Cause.{cause_of, of_source}
 use Rattle.bcder.specs.declared.mode.Mode.{Mode}
 use Rattle.bcder.specs.declared.encode.primitive.Primitive.{Primitive}
 use Rattle.bcder.specs.x690.Integer.{integer_octets}
-use Rattle.bcder.specs.calls.Meaning.{Encoded, Meaning, Exactly, ValueMeans, primitive_meaning, encoded_octets}
+use Rattle.bcder.specs.calls.Meaning.{Encoded, Meaning, Exactly, ValueMeans, primitive_meaning}
 use Rattle.bcder.proofs.Lemmas.{written_as_meant}
 use Rattle.bcder.specs.calls.Encoders.{Writes, RefusesBy}
 use Rattle.writers.specs.Numbers.{IsOfTarget}
@@ -38,13 +38,13 @@ module _ {N : Type 0} (value : N → ℤ) (mode : Mode) (p q : Primitive N) (sam
   only_of : (m : Meaning) → number_means value mode p m → m ≡ Ok a
   only_of m h = only m (subst (λ z. number_means value mode z m) same h)
 
-  pub refused_target : (r : Result (Unit {0}) WriteError) → Writes encoded_octets (number_means value mode p) ⊥ old new r → IfErr r IsOfTarget
+  pub refused_target : (r : Result (Unit {0}) WriteError) → Writes (λ (e : Encoded). e.octets) (number_means value mode p) ⊥ old new r → IfErr r IsOfTarget
   refused_target (Ok u) w = tt
   refused_target (Err (Target e)) w = tt
-  refused_target (Err (Refused e)) (inl w) = absurd (w.wrote.done.1)
-  refused_target (Err (Refused e)) (inr n) = absurd (never_refused (number_means value mode p) a only_of n.error n.refuses)
+  refused_target (Err (Refused e)) (inl w) = absurd (w.2.done.1)
+  refused_target (Err (Refused e)) (inr n) = absurd (never_refused (number_means value mode p) a only_of n.0 n.2)
 
-  pub written : Writes encoded_octets (number_means value mode p) ⊥ old new (Ok tt) → Appends old new a.octets
+  pub written : Writes (λ (e : Encoded). e.octets) (number_means value mode p) ⊥ old new (Ok tt) → Appends old new a.octets
   written w = written_as_meant (number_means value mode p) ⊥ old new a only_of w
 
 nothing_is_infallible : Infallible → ⊥

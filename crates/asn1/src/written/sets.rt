@@ -4,7 +4,7 @@ ghost use Rattle.std.specs.Prelude.{length};
 ghost use Rattle.bcder.specs.declared.mode.Mode.TheVariants.{Ber};
 ghost use Rattle.bcder.specs.x690.Tree.{no_trees};
 ghost use Rattle.bcder.specs.calls.Meaning.{Encoded, ValueMeans, constructed_meaning};
-ghost use Rattle.bcder.specs.calls.Encoders.{WritesValues};
+ghost use Rattle.bcder.specs.calls.Encoders.{Writes};
 ghost use Rattle.bcder.specs.laws.Meanings.{constructed_lawful};
 ghost use Rattle.asn1.specs.SetsWritten.{WritesSetOf, AreKeptInOrder, MayLackForSet};
 ghost use Rattle.asn1.specs.SetsLaws.{set_lawful};
@@ -43,9 +43,10 @@ fn write_in_order<T: Encode, W: io::Write>(
 ) -> Result<(), WriteError>
     requires not_ber { mode ≢ Ber }
     requires two { 2 ≤ length items.now.items }
-    ensures { WritesValues W.contents target
+    ensures { Writes (λ (e : Encoded). e.octets)
         (WritesSetOf mode (λ v. T.writes T.TAG v mode) items.now.items)
-        (MayLackForSet mode (λ v. T.may_lack v mode) items.now.items) result }
+        (MayLackForSet mode (λ v. T.may_lack v mode) items.now.items)
+        (W.contents target.old) (W.contents target.new) result }
 {
     match items.len_fields(mode) {
         Ok(_) => match in_order(*items.allocator(), items.as_slice(), mode) {

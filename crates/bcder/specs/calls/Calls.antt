@@ -13,16 +13,17 @@ use Rattle.bcder.specs.declared.decode.error.ContentError.{ContentError}
 use Rattle.bcder.specs.calls.Cause.{Cause, of_source, IsOfContent}
 use Rattle.bcder.specs.x690.Encoding.{IsHeader, IsEncoding, Header}
 use Rattle.bcder.specs.calls.Stream.{Stream, Grew}
-use Rattle.bcder.specs.calls.Content.{Reading, ContentForm, Octets, DefiniteValues, IndefiniteValues, UnboundedValues, label, Moves}
-use Rattle.bcder.specs.calls.Content.{Advances, Asked, HasHeader, IsDone, EndsBefore, NotAtEnd}
+use Rattle.bcder.specs.declared.decode.content.Kind.TheVariants as kind
+use Rattle.bcder.specs.calls.Content.{Reading, ContentForm, Octets, label, Moves, values}
+use Rattle.bcder.specs.calls.Content.{Advances, Asked, HasHeader, IsDone, EndsBefore}
 
 -- ---- what a closure gets
 
 -- the form of the content behind a header
 abbrev pub IsFormOf : Bool → Length → ContentForm → Type 0
-IsFormOf form Indefinite k = k ≡ IndefiniteValues
+IsFormOf form Indefinite k = k ≡ values kind.Indefinite
 IsFormOf false (Definite n) k = k ≡ Octets
-IsFormOf true (Definite n) k = k ≡ DefiniteValues
+IsFormOf true (Definite n) k = k ≡ values kind.Definite
 
 -- what the content is owed, and its octets: those that its length promises, or all that follow
 abbrev pub ContentOf : Length → Option ℕ → List ℕ → Option ℕ → List ℕ → Type 0
@@ -57,7 +58,7 @@ pub record IsInside (asked : Asked) (c : Reading) (t : Tag) (i : Reading) : Type
   pub state : i.state ≡ Open
   pub mode : i.mode ≡ c.mode
   pub marked : i.marked ≡ false
-  pub bounded : i.kind ≢ UnboundedValues
+  pub bounded : i.kind ≢ values kind.Unbounded
   pub shorter : length i.stream.rest + 2 ≤ length c.stream.rest
 
 -- ---- what is required of a closure of content
@@ -71,10 +72,6 @@ module _ {C R : Type 0} (view : C → Reading) (Handed : Reading → Type 0) whe
   -- whatever the closure leaves is reached by lawful steps from the content that it got
   abbrev pub IsLawfulOn : (MutBor C → R → MutBor C → Type 0) → Type 0
   IsLawfulOn post = (p : MutBor C) (r : R) (q : MutBor C) → Handed (view p.now) → post p r q → Moves (view p.now) (view q.now)
-
--- the effect of a closure of content alone, for any tag
-abbrev pub Untagged : {A B R : Type 0} → (A → R → B → Type 0) → Tag → A → R → B → Type 0
-Untagged post t p r q = post p r q
 
 -- ---- what a closure did
 
@@ -102,7 +99,7 @@ module _ {C R : Type 0} (view : C → Reading) where
 pub data RefusesEnd {E : Type 0} (why : E → Cause ContentError) (c : Reading) (e : E) (d : Reading) : Type 0 where
   left_failed : c.state ≡ Failed → IsOfContent (why e) → RefusesEnd why c e d
   source_failed : why e ≡ of_source → Grew c.stream.faults d.stream.faults → RefusesEnd why c e d
-  left_open : NotAtEnd c → IsOfContent (why e) → RefusesEnd why c e d
+  left_open : ((after : List ℕ) → EndsBefore c after → ⊥) → IsOfContent (why e) → RefusesEnd why c e d
 
 -- why the content i of a value was refused with e, and left as j: the closure refused it, or what it left is not at its end;
 -- `why` gives the cause of e
@@ -146,13 +143,6 @@ pub record RefusesFront {C T E : Type 0} (why : E → Cause ContentError) (view 
   pub faults_left : left.stream.faults ≡ d.stream.faults
   pub marked : d.marked ≡ (c.marked || left.marked)
   pub refuses : RefusesContent why view post front.tag handed e left
-
--- an asked header comes next, and has the form f
-pub record HasForm (f : Bool) (asked : Asked) (c : Reading) : Type 0 where
-  pub usable : c.state ≡ Open
-  pub after : List ℕ
-  pub front : HasHeader asked c after
-  pub is : front.form ≡ f
 
 -- ---- the steps inside a take
 

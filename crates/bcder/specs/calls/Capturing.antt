@@ -2,7 +2,6 @@
 use Rattle.std.specs.Prelude.{◌≡◌, ◌≢◌, ◌||◌, ℕ, ◌-◌, ◌<◌, ◌≤◌, Bool, true, false, List, [], ◌++◌}
 use Rattle.std.specs.Prelude.{length, take, Option, Result, Ok, IfOk, IfErr, OnOk}
 use Rattle.std.specs.Borrow.{MutBor}
-use denote.Triple.Both.{Both}
 use Rattle.bcder.specs.declared.mode.Mode.{Mode}
 use Rattle.bcder.specs.declared.decode.content.Constructed.{Constructed}
 use Rattle.bcder.specs.declared.decode.content.Kind.{Kind}
@@ -20,7 +19,7 @@ use Rattle.bcder.specs.calls.Captured.{Kept, AreWhole}
 use Rattle.bcder.specs.calls.Content.{ContentForm, Reading, values, label, Closes, Moves}
 use Rattle.bcder.specs.calls.Calls.{Answered, IsOver, MayBeCalledOn, IsLawfulOn}
 use Rattle.bcder.specs.calls.Decoding.{RefusesOn}
-use Rattle.bcder.specs.calls.Views.{of_constructed, limited_stream, before, after}
+use Rattle.bcder.specs.calls.Views.{of_constructed, limited_stream}
 
 -- unmarked content of the octets w, over a source that has failed n times
 pub record IsHanded (w : List ℕ) (n : ℕ) (o : Option ℕ) (k : ContentForm) (st : State) (m : Mode) (i : Reading) : Type 0 where
@@ -86,31 +85,9 @@ module _ {C X : Type 0} (view : C → Reading) (post : MutBor C → Result (Unit
     pub marked : d.marked ≡ (c.marked || left.marked)
     pub refuses : RefusesLeft handed e left d.stream.faults
 
--- ---- of a parameter, from entry to exit
-
-module _ {S : Type 0} (stream : S → Stream) where
-  -- content over a capturing source over the source of content
-  abbrev pub of_captured : Constructed (CaptureSource (LimitedSource S)) → Reading
-  of_captured = of_constructed (capturing (limited_stream stream))
-
-  -- the closure may be called on the content that it gets, and moves it
-  abbrev pub CallableOnCapture : MutBor (Constructed S) → (MutBor (Constructed (CaptureSource (LimitedSource S))) → Type 0) → Type 0
-  CallableOnCapture c pre = MayBeCalledOn of_captured (IsCaptureOf (of_constructed stream c.now)) pre
-
-  abbrev pub LawfulOnCapture : {R : Type 0} → MutBor (Constructed S)
-      → (MutBor (Constructed (CaptureSource (LimitedSource S))) → R → MutBor (Constructed (CaptureSource (LimitedSource S))) → Type 0)
-      → Type 0
-  LawfulOnCapture c post = IsLawfulOn of_captured (IsCaptureOf (of_constructed stream c.now)) post
-
-  module _ {X : Type 0} (post : MutBor (Constructed (CaptureSource (LimitedSource S))) → Result (Unit {0}) (DecodeError X)
-      → MutBor (Constructed (CaptureSource (LimitedSource S))) → Type 0) (c : Both (MutBor (Constructed S)) (MutBor (Constructed S)))
-      (r : Result Kept (DecodeError X)) where
-    -- what was captured, or why nothing was
-    abbrev pub CapturedWhat : Type 0
-    CapturedWhat = IfOk r (λ k. Captures of_captured post (before stream c) k (after stream c))
-
-    abbrev pub RefusedCapture : Type 0
-    RefusedCapture = IfErr r (λ e. RefusesCapture of_captured post (before stream c) e (after stream c))
+-- content over a capturing source over the source of content
+abbrev pub of_captured : {S : Type 0} → (S → Stream) → Constructed (CaptureSource (LimitedSource S)) → Reading
+of_captured stream = of_constructed (capturing (limited_stream stream))
 
 -- ---- an end marker after values
 

@@ -1,9 +1,6 @@
 -- When the next value is captured, and when all values up to the end of content are.
 use Rattle.std.specs.Prelude.{◌≡◌, ◌≢◌, ◌⊎◌, ℕ, ◌≤◌, true, List, [], ◌∷◌, ◌++◌, Option, Result, IfOk}
 use Rattle.std.specs.Prelude.{IfErr, OnOk, OnErr}
-use Rattle.std.specs.Borrow.{MutBor}
-use denote.Triple.Both.{Both}
-use Rattle.bcder.specs.declared.decode.content.Constructed.{Constructed}
 use Rattle.bcder.specs.declared.decode.content.State.TheVariants.{Open, Ended}
 use Rattle.bcder.specs.declared.decode.error.DecodeError.{DecodeError}
 use Rattle.bcder.specs.calls.Cause.{cause_of, of_memory}
@@ -12,22 +9,14 @@ use Rattle.bcder.specs.x690.Tree.{Tree, Trees}
 use Rattle.bcder.specs.x690.Encoding.{AreEncodings}
 use Rattle.bcder.specs.x690.Preorder.{Heading, preorder}
 use Rattle.bcder.specs.x690.Grammar.{IsOnly}
-use Rattle.bcder.specs.calls.Stream.{Stream}
 use Rattle.bcder.specs.calls.Captured.{Kept, AreWhole}
-use Rattle.bcder.specs.calls.Content.{Reading, Octets, Closes, IsDone, NotAtEnd, any}
+use Rattle.bcder.specs.calls.Content.{EndsBefore, Reading, Octets, Closes, IsDone, any}
 use Rattle.bcder.specs.calls.Skipping.{HeadersFrom, GoesDeep}
 use Rattle.bcder.specs.calls.Refusals.{Refuses}
 use Rattle.bcder.specs.calls.Takes.{NextBy}
 use Rattle.bcder.specs.calls.Walking.{HasNoNext, HasNoValue, HasValue, PassesValue, ClosesBefore, HasValues, Walks}
-use Rattle.bcder.specs.calls.Views.{before, after}
 
 -- ---- what both leave
-
--- nothing of content was taken, and its state is as it was
-pub record IsAsBefore (c d : Reading) : Type 0 where
-  pub rest : d.stream.rest ≡ c.stream.rest
-  pub owed : d.owed ≡ c.owed
-  pub state : d.state ≡ c.state
 
 -- octets were captured, as Q says, or not, as when there is none of what is asked for; memory runs out only if there is some
 pub record CapturesBy {X : Type 0} (Q : Reading → Kept → Reading → Type 0) (HasNone HasSome : Reading → Type 0) (c : Reading)
@@ -35,7 +24,8 @@ pub record CapturesBy {X : Type 0} (Q : Reading → Kept → Reading → Type 0)
   pub captured : IfOk r (λ k. Q c k d)
   pub no_fault : OnOk r (d.stream.faults ≡ c.stream.faults)
   pub refused : IfErr r (λ e. Refuses cause_of any HasNone ((cause_of e ≡ of_memory) × HasSome c) c e d)
-  pub as_before : OnErr r (IsAsBefore c d)
+  -- an error took nothing, and the state is as it was
+  pub as_before : OnErr r ((d.stream.rest ≡ c.stream.rest) × (d.owed ≡ c.owed) × (d.state ≡ c.state))
   pub mode : d.mode ≡ c.mode
   pub marked : d.marked ≡ c.marked
 
@@ -58,16 +48,11 @@ pub record LeadDeep (mode : Mode) (w : List ℕ) : Type 0 where
 
 -- ---- one value
 
--- open content that is not at its end begins with headers that lead to a deep value
-pub record BeginsDeep (c : Reading) : Type 0 where
-  pub usable : c.state ≡ Open
-  pub some : NotAtEnd c
-  pub leads : LeadDeep c.mode c.stream.rest
-
 -- a value comes next, or what comes next leads to a deep one
 pub data HasValueOrDeep (c : Reading) : Type 0 where
   of_value : (t : Tree) (w after : List ℕ) → HasValue c t w after → HasValueOrDeep c
-  of_depth : BeginsDeep c → HasValueOrDeep c
+  -- open content that is not at its end begins with headers that lead to a deep value
+  of_depth : c.state ≡ Open → ((after : List ℕ) → EndsBefore c after → ⊥) → LeadDeep c.mode c.stream.rest → HasValueOrDeep c
 
 -- the octets k are the one value that comes next in c, and d is left after it
 pub record CapturesValue (c : Reading) (k : Kept) (d : Reading) : Type 0 where
@@ -77,6 +62,12 @@ pub record CapturesValue (c : Reading) (k : Kept) (d : Reading) : Type 0 where
   pub mode : k.mode ≡ c.mode
   pub start : k.start ≡ c.stream.position
   pub stays : d.state ≡ Open
+
+-- the same by itself: open content that is not at its end begins with headers that lead to a deep value
+pub record BeginsDeep (c : Reading) : Type 0 where
+  pub usable : c.state ≡ Open
+  pub some : (after : List ℕ) → EndsBefore c after → ⊥
+  pub leads : LeadDeep c.mode c.stream.rest
 
 -- ---- the next value, if there is one
 
@@ -132,26 +123,3 @@ pub record MetDeep (c : Reading) : Type 0 where
   pub left : Reading
   pub walks : Walks c at
   pub deep : GoesDeep at left
-
--- ---- of a parameter, from entry to exit
-
-module _ {S : Type 0} (stream : S → Stream) (c : Both (MutBor (Constructed S)) (MutBor (Constructed S))) where
-  module _ {X : Type 0} (r : Result Kept (DecodeError X)) where
-    -- the next value was captured, or why it was not
-    abbrev pub CapturedOne : Type 0
-    CapturedOne = CapturesBy CapturesValue HasNoValue HasValueOrDeep (before stream c) r (after stream c)
-
-    -- all values were captured, or why they were not
-    abbrev pub CapturedAll : Type 0
-    CapturedAll = CapturesBy CapturesValues HasOthers HasValuesOrDeep (before stream c) r (after stream c)
-
-  module _ {X : Type 0} (r : Result (Option Kept) (DecodeError X)) where
-    -- the next value was captured, or content was at its end, or why it was neither
-    abbrev pub CapturedNext : Type 0
-    CapturedNext = CapturesNext (before stream c) r (after stream c)
-
-  abbrev pub PassedOne : {T X : Type 0} → Result T (DecodeError X) → Type 0
-  PassedOne r = PassesBy PassesValue HasNoValue BeginsDeep (before stream c) r (after stream c)
-
-  abbrev pub PassedToEnd : {T X : Type 0} → Result T (DecodeError X) → Type 0
-  PassedToEnd r = PassesBy PassesToEnd HasOthers MetDeep (before stream c) r (after stream c)

@@ -76,23 +76,15 @@ decode_text source_text error_text (Source e) = source_text e
 decode_text source_text error_text (Content error pos) = error_text error ++? Some (codes " (at position " ++ decimal pos ++ codes ")")
 decode_text source_text error_text NoMemory = Some (codes "out of memory")
 
--- a content error with a fixed text
-abbrev pub IsStatic : ContentError → Type 0
-IsStatic (Static text) = Unit {0}
-IsStatic (Owned text) = ⊥
-IsStatic (ExpectedTag tag) = ⊥
-IsStatic (ExpectedInteger value) = ⊥
-IsStatic (Boxed text) = ⊥
-
 -- content was refused, for a reason that a fixed text gives: the source did not fail, and memory did not run out
 abbrev pub IsOfContent : Cause ContentError → Type 0
 IsOfContent of_source = ⊥
-IsOfContent (of_content e) = IsStatic e
+IsOfContent (of_content (Static text)) = Unit {0}
+IsOfContent (of_content (Owned text)) = ⊥
+IsOfContent (of_content (ExpectedTag tag)) = ⊥
+IsOfContent (of_content (ExpectedInteger value)) = ⊥
+IsOfContent (of_content (Boxed text)) = ⊥
 IsOfContent of_memory = ⊥
 
 abbrev pub IsRefusal : {S : Type 0} → DecodeError S → Type 0
 IsRefusal e = IsOfContent (cause_of e)
-
--- the refusal of anything but this tag, which it names
-abbrev pub NamesTag : {S : Type 0} → Tag → DecodeError S → Type 0
-NamesTag tag e = cause_of e ≡ of_content (ExpectedTag tag)

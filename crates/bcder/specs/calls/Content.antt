@@ -26,15 +26,6 @@ pub data ContentForm : Type 0 where
   Octets : ContentForm
   values : Kind → ContentForm
 
-abbrev pub DefiniteValues : ContentForm
-DefiniteValues = values kind.Definite
-
-abbrev pub IndefiniteValues : ContentForm
-IndefiniteValues = values kind.Indefinite
-
-abbrev pub UnboundedValues : ContentForm
-UnboundedValues = values kind.Unbounded
-
 pub record Reading : Type 0 where
   -- the source, up to the limit of this content
   pub stream : Stream
@@ -65,7 +56,7 @@ Falls None k (Some n) = n ≢ n
 -- the octets e that end content: none, or the end marker of indefinite content
 abbrev pub Closes : Mode → Reading → List ℕ → Reading → Type 0
 Closes mode c e d = (e ≡ []) × (d.state ≡ c.state)
-    ⊎ IsEndOfContents mode e × (c.kind ≡ IndefiniteValues) × (c.state ≡ Open) × (d.state ≡ Ended)
+    ⊎ IsEndOfContents mode e × (c.kind ≡ values kind.Indefinite) × (c.state ≡ Open) × (d.state ≡ Ended)
 
 -- the octets passed are whole values in the mode, and perhaps the end marker
 pub record Whole (mode : Mode) (c : Reading) (passed : List ℕ) (d : Reading) : Type 0 where
@@ -80,6 +71,7 @@ pub record MovesBy (c d : Reading) : Type 0 where
   pub passed : List ℕ
   pub rest : c.stream.rest ≡ passed ++ d.stream.rest
   pub owed : Falls c.owed (length passed) d.owed
+  pub ends : d.state ≡ Ended → (c.state ≡ Ended) ⊎ (c.kind ≡ values kind.Indefinite)
   pub kept : d.stream.kept ≡ c.stream.kept
   pub kind : d.kind ≡ c.kind
   pub mode : d.marked ≡ false → d.mode ≡ c.mode
@@ -88,16 +80,11 @@ pub record MovesBy (c d : Reading) : Type 0 where
   pub ended : c.state ≡ Ended → (d.state ≡ Ended) × (passed ≡ [])
   pub failed : c.state ≡ Failed → d.state ≡ Failed
   pub marked : c.marked ≡ true → d.marked ≡ true
-  pub ends : d.state ≡ Ended → (c.state ≡ Ended) ⊎ (c.kind ≡ IndefiniteValues)
   pub whole : d.state ≢ Failed → c.kind ≢ Octets → Whole (label c.mode d.marked) c passed d
 
 -- lawful steps lead from content c to content d: the one relation of all content calls and closures
 unfoldable pub Moves : Reading → Reading → Type 0
 Moves c d = MovesBy c d
-
--- whatever moved to c moves to d, so that steps in a row chain by themselves
-abbrev pub Carries : Reading → Reading → Type 0
-Carries c d = (b : Reading) → Moves b c → Moves b d
 
 -- octets were passed, and neither the kind nor the mode changed
 pub record Advances (c d : Reading) (passed : List ℕ) : Type 0 where
@@ -145,15 +132,6 @@ pub record HasMarker (mode : Mode) (w after : List ℕ) : Type 0 where
   pub is_end : IsEndOfContents mode marker
   pub rest : w ≡ marker ++ after
 
--- the identifier octets of another tag come next
-pub record HasOther (t : Tag) (w : List ℕ) : Type 0 where
-  pub tag : Tag
-  pub form : Bool
-  pub after : List ℕ
-  pub is_tag : IsTag tag
-  pub differs : tag ≢ t
-  pub rest : w ≡ identifier tag form ++ after
-
 -- ---- the end
 
 -- the octets of open content are used up: none is owed, or, without a limit, none is left
@@ -170,38 +148,32 @@ IsDone c = (c.state ≡ Ended) ⊎ (c.state ≡ Open) × IsUsedUp c.kind c.owed 
 -- open content is at its end, and the octets `after` follow
 pub data IsAtEnd (c : Reading) (after : List ℕ) : Type 0 where
   of_octets : c.kind ≡ Octets → c.owed ≡ Some 0 → IsAtEnd c after
-  of_definite : c.kind ≡ DefiniteValues → c.owed ≡ Some 0 → IsAtEnd c after
-  of_indefinite : c.kind ≡ IndefiniteValues → HasMarker c.mode c.stream.rest after → IsAtEnd c after
-  of_unbounded : c.kind ≡ UnboundedValues → c.stream.rest ≡ [] → IsAtEnd c after
+  of_definite : c.kind ≡ values kind.Definite → c.owed ≡ Some 0 → IsAtEnd c after
+  of_indefinite : c.kind ≡ values kind.Indefinite → HasMarker c.mode c.stream.rest after → IsAtEnd c after
+  of_unbounded : c.kind ≡ values kind.Unbounded → c.stream.rest ≡ [] → IsAtEnd c after
 
 -- content is at its end, and these octets follow
 abbrev pub EndsBefore : Reading → List ℕ → Type 0
 EndsBefore c after = (c.state ≡ Ended) ⊎ (c.state ≡ Open) × IsAtEnd c after
 
--- content is not at its end
-pub record NotAtEnd (c : Reading) : Type 0 where
-  pub none : (after : List ℕ) → EndsBefore c after → ⊥
-
 -- why the tag t does not come next in open content, and the octets left: no octets come, those of another tag do,
 -- or the end marker, if t is its tag
 pub data IsElsewhere (t : Tag) (c : Reading) (after : List ℕ) : Type 0 where
   none_left : c.stream.rest ≡ [] → after ≡ [] → IsElsewhere t c after
-  other : HasOther t c.stream.rest → after ≡ c.stream.rest → IsElsewhere t c after
-  marker : t ≡ end_of_contents → c.kind ≡ IndefiniteValues → HasMarker c.mode c.stream.rest after → IsElsewhere t c after
+  other : (u : Tag) × (f : Bool) × (x : List ℕ) × IsTag u × (u ≢ t) × (c.stream.rest ≡ identifier u f ++ x) → after ≡ c.stream.rest
+      → IsElsewhere t c after
+  marker : t ≡ end_of_contents → c.kind ≡ values kind.Indefinite → HasMarker c.mode c.stream.rest after → IsElsewhere t c after
 
 -- no asked value comes next, and these octets are left
 abbrev pub IsAbsent : Asked → Reading → List ℕ → Type 0
 IsAbsent any c after = EndsBefore c after
 IsAbsent (tagged t) c after = (c.state ≡ Ended) × (after ≡ c.stream.rest) ⊎ (c.state ≡ Open) × IsElsewhere t c after
 
--- content as it is left if no value of a tag comes next: as it was, or ended by its marker
-abbrev pub IsLeft : Tag → Reading → Reading → Type 0
-IsLeft t c d = (d.state ≡ c.state) × (d.stream.rest ≡ c.stream.rest) ⊎ (t ≡ end_of_contents) × (c.state ≡ Open) × (d.state ≡ Ended)
-
--- no asked value comes next, and content is usable
+-- no asked value comes next, and content is usable: at its end; or, for a tag, as it was, or ended by its marker
 abbrev pub IsMissing : Asked → Reading → Reading → Type 0
 IsMissing any c d = EndsBefore c d.stream.rest × IsDone d
-IsMissing (tagged t) c d = IsAbsent (tagged t) c d.stream.rest × IsLeft t c d
+IsMissing (tagged t) c d = IsAbsent (tagged t) c d.stream.rest
+    × ((d.state ≡ c.state) × (d.stream.rest ≡ c.stream.rest) ⊎ (t ≡ end_of_contents) × (c.state ≡ Open) × (d.state ≡ Ended))
 
 -- neither an asked value comes next, nor is there a reason to return that there is none
 pub record NothingThere (asked : Asked) (c : Reading) : Type 0 where
@@ -225,7 +197,7 @@ pub record Enters (c : Reading) (h : Header) (d : Reading) : Type 0 where
 -- an end marker was taken
 pub record TakesMarker (c d : Reading) : Type 0 where
   pub usable : c.state ≡ Open
-  pub kind : c.kind ≡ IndefiniteValues
+  pub kind : c.kind ≡ values kind.Indefinite
   pub marker : HasMarker c.mode c.stream.rest d.stream.rest
   pub ended : d.state ≡ Ended
 
@@ -233,7 +205,7 @@ pub record TakesMarker (c d : Reading) : Type 0 where
 pub record NoFront (c : Reading) : Type 0 where
   pub some : c.stream.rest ≢ []
   pub header : (asked : Asked) (after : List ℕ) → HasHeader asked c after → ⊥
-  pub marker : c.kind ≡ IndefiniteValues → (after : List ℕ) → HasMarker c.mode c.stream.rest after → ⊥
+  pub marker : c.kind ≡ values kind.Indefinite → (after : List ℕ) → HasMarker c.mode c.stream.rest after → ⊥
 
 -- d is the content c, over a source that gives the same octets
 pub record Resembles (c d : Reading) : Type 0 where
@@ -248,33 +220,17 @@ pub record Resembles (c d : Reading) : Type 0 where
 
 -- ---- what octets violate
 
--- the header of a value comes next, and promises more octets than are left
-pub record HasLongValue (c : Reading) : Type 0 where
-  pub tag : Tag
-  pub form : Bool
-  pub number : ℕ
-  pub octets : List ℕ
-  pub after : List ℕ
-  pub is_header : IsHeader c.mode tag form (Definite number) octets
-  pub rest : c.stream.rest ≡ octets ++ after
-  pub left : ℕ
-  pub owed : c.owed ≡ Some left
-  pub beyond : left < length octets + number
-
 -- the octets to come are refused in the content, for the named reason
 pub data Violates (c : Reading) (r : Violation) : Type 0 where
   in_front : ViolatesFront c.mode c.stream.rest r → Violates c r
-  truncated_contents : r ≡ v.TruncatedContents → c.stream.rest ≡ [] → c.kind ≢ UnboundedValues → Violates c r
-  value_too_long : r ≡ v.ValueTooLong → HasLongValue c → Violates c r
-  stray_end : r ≡ v.StrayEnd → c.kind ≢ IndefiniteValues → (after : List ℕ) → HasMarker c.mode c.stream.rest after → Violates c r
-
--- the cause is content, and its text names what the octets violate
-pub record NamesViolation (why : Cause ContentError) (c : Reading) : Type 0 where
-  pub violation : Violation
-  pub violates : Violates c violation
-  pub named : why ≡ of_content (Static (violation_text violation))
+  truncated_contents : r ≡ v.TruncatedContents → c.stream.rest ≡ [] → c.kind ≢ values kind.Unbounded → Violates c r
+  -- the header of a value comes next, and promises more octets than are left
+  value_too_long : r ≡ v.ValueTooLong → (t : Tag) (form : Bool) (number left : ℕ) (octets after : List ℕ)
+      → IsHeader c.mode t form (Definite number) octets → c.stream.rest ≡ octets ++ after → c.owed ≡ Some left
+      → left < length octets + number → Violates c r
+  stray_end : r ≡ v.StrayEnd → c.kind ≢ values kind.Indefinite → (after : List ℕ) → HasMarker c.mode c.stream.rest after → Violates c r
 
 -- the cause is content; and if no asked value comes next, nor a reason to return none, its text names what the octets violate
 pub record NamesFront (asked : Asked) (why : Cause ContentError) (c : Reading) : Type 0 where
   pub refused : IsOfContent why
-  pub named : NothingThere asked c → NamesViolation why c
+  pub named : NothingThere asked c → (r : Violation) × Violates c r × (why ≡ of_content (Static (violation_text r)))

@@ -3,15 +3,13 @@ use Rattle.std.specs.Prelude.{◌≡◌, ◌≢◌, ℕ, [], Option, Some, None,
 use Rattle.std.specs.Borrow.{MutBor}
 use Rattle.bcder.specs.declared.mode.Mode.{Mode}
 use Rattle.bcder.specs.declared.decode.content.State.TheVariants.{Open, Failed}
-use Rattle.bcder.specs.declared.decode.content.Constructed.{Constructed}
-use Rattle.bcder.specs.declared.decode.content.Primitive.{Primitive}
 use Rattle.bcder.specs.declared.decode.error.DecodeError.{DecodeError}
 use Rattle.bcder.specs.calls.Cause.{cause_of, position_of, of_source, IsRefusal}
 use Rattle.bcder.specs.calls.Stream.{Stream, Grew, IsExhausted}
-use Rattle.bcder.specs.calls.Content.{Reading, DefiniteValues, Moves, Resembles}
-use Rattle.bcder.specs.calls.Calls.{Answered, IsOver, MayBeCalledOn, IsLawfulOn}
+use Rattle.bcder.specs.declared.decode.content.Kind.TheVariants as kind
+use Rattle.bcder.specs.calls.Content.{Reading, Moves, Resembles, values}
+use Rattle.bcder.specs.calls.Calls.{Answered, IsOver}
 use Rattle.bcder.specs.calls.Decoding.{Decodes, RefusesDecode, RefusesOn}
-use Rattle.bcder.specs.calls.Views.{of_constructed, of_primitive}
 
 -- why e was returned after a closure took values and left s, up to a limit: octets are left, and e has their position;
 -- or the source failed, and is s' then
@@ -57,7 +55,7 @@ module _ {C T X : Type 0} (view : C → Reading) (post : MutBor C → Result T (
 
 -- the contents octets c as values in a mode, as a closure gets them
 abbrev pub IsWithin : Reading → Mode → Reading → Type 0
-IsWithin c m i = IsOver c.stream c.owed DefiniteValues Open m i
+IsWithin c m i = IsOver c.stream c.owed (values kind.Definite) Open m i
 
 -- a closure got the contents octets c as content i; k is left of that, and d of c
 pub record HandsWithin (c : Reading) (m : Mode) (i k d : Reading) : Type 0 where
@@ -81,12 +79,3 @@ module _ {C T X : Type 0} (view : C → Reading) (post : MutBor C → Result T (
     pub left : Reading
     pub hands : HandsWithin c m handed left d
     pub refuses : RefusesToEnd view post handed e left
-
--- the closure may be called on the contents octets as values in a mode, and moves them
-module _ {S : Type 0} (stream : S → Stream) where
-  abbrev pub CallableWithin : MutBor (Primitive S) → Mode → (MutBor (Constructed S) → Type 0) → Type 0
-  CallableWithin c m pre = MayBeCalledOn (of_constructed stream) (IsWithin (of_primitive stream c.now) m) pre
-
-  abbrev pub LawfulWithin : {R : Type 0} → MutBor (Primitive S) → Mode → (MutBor (Constructed S) → R → MutBor (Constructed S) → Type 0)
-      → Type 0
-  LawfulWithin c m post = IsLawfulOn (of_constructed stream) (IsWithin (of_primitive stream c.now) m) post

@@ -12,7 +12,7 @@ use Rattle.bcder.specs.declared.length.Length.{Length}
 use Rattle.bcder.specs.declared.length.Length.TheVariants.{Definite}
 use Rattle.bcder.specs.x690.Identifier.{Tag, IsValueTag, end_of_contents}
 use Rattle.bcder.specs.x690.Octets.{header, definite, length_octets, fits_length}
-use Rattle.bcder.specs.calls.Meaning.{Encoded, Meaning, ContentsMeaning, IsOne, encoded_octets}
+use Rattle.bcder.specs.calls.Meaning.{Encoded, Meaning, ContentsMeaning, IsOne}
 use Rattle.bcder.specs.calls.Target.{AppendsFront, AppendsShorter}
 
 -- ---- refusals and sizes
@@ -28,7 +28,7 @@ TellsSize octets M lacks (Ok n) = (a : _) × M (Ok a) × (n ≡ length (octets a
 TellsSize octets M lacks (Err e) = RefusesBy M lacks e
 
 abbrev pub SizeOfValues : (Meaning → Type 0) → Type 0 → Result ℕ EncodeError → Type 0
-SizeOfValues M lacks r = TellsSize encoded_octets M lacks r
+SizeOfValues M lacks r = TellsSize (λ (e : Encoded). e.octets) M lacks r
 
 abbrev pub SizeOfContents : (ContentsMeaning → Type 0) → Type 0 → Result ℕ EncodeError → Type 0
 SizeOfContents M lacks r = TellsSize (λ w. w) M lacks r
@@ -63,25 +63,11 @@ DoneOf lacks w old new (Err (Refused e)) = (e ≡ NoMemory) × lacks × AppendsF
 pub record WroteOf (lacks : Type 0) (w : List ℕ) (old new : Option (List ℕ)) (r : Result (Unit {0}) WriteError) : Type 0 where
   pub done : DoneOf lacks w old new r
 
--- what is meant is octets, and they were written
-pub record WroteMeant {A : Type 0} (octets : A → List ℕ) (M : Result A EncodeError → Type 0) (lacks : Type 0) (old new : Option (List ℕ))
-    (r : Result (Unit {0}) WriteError) : Type 0 where
-  pub what : A
-  pub meant : M (Ok what)
-  pub wrote : WroteOf lacks (octets what) old new r
-
--- the writing was refused, and nothing was written
-pub record WroteNothing {A : Type 0} (M : Result A EncodeError → Type 0) (lacks : Type 0) (old new : Option (List ℕ))
-    (r : Result (Unit {0}) WriteError) : Type 0 where
-  pub error : EncodeError
-  pub answered : r ≡ Err (Refused error)
-  pub refuses : RefusesBy M lacks error
-  pub kept : Keeps old new
-
--- r says how the writing of what is meant went
+-- r says how the writing of what is meant went: it is octets, and they were written; or it was refused, and nothing was written
 abbrev pub Writes : {A : Type 0} → (A → List ℕ) → (Result A EncodeError → Type 0) → Type 0 → Option (List ℕ) → Option (List ℕ)
     → Result (Unit {0}) WriteError → Type 0
-Writes octets M lacks old new r = WroteMeant octets M lacks old new r ⊎ WroteNothing M lacks old new r
+Writes octets M lacks old new r = ((a : _) × M (Ok a) × WroteOf lacks (octets a) old new r)
+    ⊎ ((e : EncodeError) × (r ≡ Err (Refused e)) × RefusesBy M lacks e × Keeps old new)
 
 -- r says how the writing of what is meant went, if that is known to be no refusal
 abbrev pub WritesEncoding : (Meaning → Type 0) → Type 0 → Option (List ℕ) → Option (List ℕ) → Result (Unit {0}) WriteError → Type 0
@@ -91,9 +77,6 @@ WritesEncoding M lacks old new r = (e : Encoded) → M (Ok e) → WroteOf lacks 
 module _ {W : Type 0} (contents : W → Option (List ℕ)) (target : Both (MutBor W) (MutBor W)) where
   abbrev pub WroteOctets : List ℕ → Result (Unit {0}) WriteError → Type 0
   WroteOctets w r = WroteOf ⊥ w (contents target.entry.now) (contents target.exit.now) r
-
-  abbrev pub WritesValues : (Meaning → Type 0) → Type 0 → Result (Unit {0}) WriteError → Type 0
-  WritesValues M lacks r = Writes encoded_octets M lacks (contents target.entry.now) (contents target.exit.now) r
 
   abbrev pub WritesContents : (ContentsMeaning → Type 0) → Type 0 → Result (Unit {0}) WriteError → Type 0
   WritesContents M lacks r = Writes (λ w. w) M lacks (contents target.entry.now) (contents target.exit.now) r

@@ -9,7 +9,7 @@ use Rattle.bcder.specs.declared.mode.Mode.TheVariants.{Ber, Cer, Der}
 use Rattle.bcder.specs.x690.Tree.{Trees}
 use Rattle.bcder.specs.x690.Encoding.{AreEncodings}
 use Rattle.bcder.specs.calls.Captured.{Kept}
-use Rattle.bcder.specs.calls.Meaning.{Encoded, Meaning, encoded_octets}
+use Rattle.bcder.specs.calls.Meaning.{Encoded, Meaning}
 use Rattle.bcder.specs.calls.Encoders.{HasEncoding, RefusesToKeep}
 
 -- ---- kept values, written
@@ -68,9 +68,9 @@ pub record HoldsMeant (M : Meaning → Type 0) (mode : Mode) (c : Kept) : Type 0
 -- r is a capture of what is meant, or says why it is not kept
 abbrev pub GathersValues : (Meaning → Type 0) → Type 0 → Mode → Result Kept EncodeError → Type 0
 GathersValues M lacks mode (Ok c) = HoldsMeant M mode c
-GathersValues M lacks mode (Err e) = RefusesToKeep encoded_octets M lacks e
+GathersValues M lacks mode (Err e) = RefusesToKeep (λ (e : Encoded). e.octets) M lacks e
 
 -- r says whether what is meant was put after the kept values, and otherwise why it is not kept
 abbrev pub ExtendsBy : (Meaning → Type 0) → Type 0 → Both (MutBor Kept) (MutBor Kept) → Result (Unit {0}) EncodeError → Type 0
 ExtendsBy M lacks c (Ok u) = GrowsBy M c.entry.now c.exit.now
-ExtendsBy M lacks c (Err e) = RefusesToKeep encoded_octets M lacks e
+ExtendsBy M lacks c (Err e) = RefusesToKeep (λ (e : Encoded). e.octets) M lacks e

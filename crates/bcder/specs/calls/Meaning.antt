@@ -14,9 +14,6 @@ pub record Encoded : Type 0 where
   pub values : Trees
   pub octets : List ℕ
 
-abbrev pub encoded_octets : Encoded → List ℕ
-encoded_octets e = e.octets
-
 abbrev pub Meaning : Type 0
 Meaning = Result Encoded EncodeError
 

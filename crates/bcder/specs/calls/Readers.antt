@@ -1,5 +1,5 @@
 -- What readers of contents octets say, by what the octets mean.
-use Rattle.std.specs.Prelude.{◌≡◌, ◌≢◌, ◌⊎◌, ℕ, ℤ, pos, Bool, List, [], length, Some, Result, Ok, Err, IfOk, IfErr, OnOk, OnErr, IsErrAnd}
+use Rattle.std.specs.Prelude.{◌≡◌, ◌≢◌, ◌⊎◌, ◌<◌, ℕ, ℤ, pos, Bool, List, [], length, Some, Result, Ok, Err, IfOk, IfErr, OnOk, OnErr, IsErrAnd}
 use Rattle.std.specs.Borrow.{MutBor}
 use Rattle.std.specs.Int.{Width, FitsUnsignedBits}
 use Rattle.std.specs.Int.RustNames.{FitsSigned}
@@ -13,7 +13,6 @@ use Rattle.bcder.specs.declared.decode.error.DecodeError.{DecodeError}
 use Rattle.bcder.specs.calls.Cause.{cause_of, of_source, of_content, of_memory, IsRefusal}
 use Rattle.bcder.specs.calls.Stream.{Stream, Grew}
 use Rattle.bcder.specs.calls.Content.{Reading, Octets}
-use Rattle.bcder.specs.calls.Walking.{IsShort}
 use Rattle.bcder.specs.x690.Integer.{AreInteger, IsSmallest, truth}
 use Rattle.bcder.specs.x690.Number.{IsNumber}
 use Rattle.bcder.specs.calls.Views.{of_primitive, content_before, content_after}
@@ -42,17 +41,12 @@ IsThis bits n w x = IsUnsigned bits w n
 
 -- ---- reading them
 
--- all octets that are owed come, and there are n
-pub record HasAll (n : ℕ) (c : Reading) : Type 0 where
-  pub owed : c.owed ≡ Some n
-  pub count : length c.stream.rest ≡ n
-
 -- why contents octets were not read, with error e: the source failed, too few came, or they were refused
 pub data RefusesReading {X : Type 0} (RefusesOctets : List ℕ → DecodeError X → Type 0) (c : Reading) (e : DecodeError X)
     (d : Reading) : Type 0 where
   source : cause_of e ≡ of_source → Grew c.stream.faults d.stream.faults → RefusesReading RefusesOctets c e d
-  few : IsShort c → IsRefusal e → d.stream.faults ≡ c.stream.faults → RefusesReading RefusesOctets c e d
-  refused : HasAll (length c.stream.rest) c → RefusesOctets c.stream.rest e → d.stream.faults ≡ c.stream.faults
+  few : ((n : ℕ) → c.owed ≡ Some n → length c.stream.rest < n) → IsRefusal e → d.stream.faults ≡ c.stream.faults → RefusesReading RefusesOctets c e d
+  refused : c.owed ≡ Some (length c.stream.rest) → RefusesOctets c.stream.rest e → d.stream.faults ≡ c.stream.faults
       → RefusesReading RefusesOctets c e d
 
 -- the octets mean nothing
@@ -87,7 +81,7 @@ module _ {T X : Type 0} (Means : List ℕ → T → Type 0) (Refuses : List ℕ 
   -- contents octets were read as what they mean, and taken; or refused, and left
   pub record Reads (c : Reading) (r : Result T (DecodeError X)) (d : Reading) : Type 0 where
     pub value : IfOk r (λ x. Means c.stream.rest x)
-    pub all : OnOk r (HasAll (length c.stream.rest) c)
+    pub all : OnOk r (c.owed ≡ Some (length c.stream.rest))
     pub none_left : OnOk r (d.stream.rest ≡ [])
     pub none_owed : OnOk r (d.owed ≡ Some 0)
     pub no_fault : OnOk r (d.stream.faults ≡ c.stream.faults)
@@ -100,7 +94,7 @@ module _ {T X : Type 0} (Means : List ℕ → T → Type 0) (Refuses : List ℕ 
 -- contents octets were looked at, and left; or did not come
 pub record LooksAt {T X : Type 0} (Means : List ℕ → T → Type 0) (c : Reading) (r : Result T (DecodeError X)) (d : Reading) : Type 0 where
   pub value : IfOk r (λ x. Means c.stream.rest x)
-  pub all : OnOk r (HasAll (length c.stream.rest) c)
+  pub all : OnOk r (c.owed ≡ Some (length c.stream.rest))
   pub no_fault : OnOk r (d.stream.faults ≡ c.stream.faults)
   pub refused : IfErr r (λ e. RefusesReading AreNeverRefused c e d)
   pub kept : d.stream.rest ≡ c.stream.rest

@@ -17,29 +17,24 @@ use Rattle.bcder.specs.x690.Encoding.{IsHeader}
 use Rattle.bcder.specs.x690.Preorder.{Heading, preorder}
 use Rattle.bcder.specs.calls.Stream.{Stream}
 use Rattle.bcder.specs.calls.Refusals.{Refuses}
-use Rattle.bcder.specs.calls.Content.{any, Reading, NotAtEnd}
+use Rattle.bcder.specs.calls.Content.{EndsBefore, any, Reading}
 use Rattle.bcder.specs.calls.Walking.{HasNoNext, HasValue, PassesValue, Walks, RefusesValues, AllBy}
 use Rattle.bcder.specs.calls.Takes.{HasNone, NextBy}
 use Rattle.bcder.specs.calls.Views.{of_constructed}
 
 -- ---- headers of values
 
--- w begins with the header of a value with this heading, and x follows it
-pub record HeaderStands (mode : Mode) (h : Heading) (w x : List ℕ) : Type 0 where
-  pub len : Length
-  pub header : List ℕ
-  pub is_header : IsHeader mode h.tag h.constructed len header
-  pub is : w ≡ header ++ x
-
 -- the headers are in w in this order and without overlap, and z follows somewhere after the last
 abbrev pub HeadersStand : Mode → List Heading → List ℕ → List ℕ → Type 0
 HeadersStand mode [] w z = (gap : List ℕ) × (w ≡ gap ++ z)
-HeadersStand mode (h ∷ hs) w z = (v x : List ℕ) × ((gap : List ℕ) × (w ≡ gap ++ v)) × HeaderStands mode h v x × HeadersStand mode hs x z
+HeadersStand mode (h ∷ hs) w z = (len : Length) × (gap header x : List ℕ) × IsHeader mode h.tag h.constructed len header
+    × (w ≡ gap ++ (header ++ x)) × HeadersStand mode hs x z
 
 -- the headers are in w in this order and without overlap, the first at the front
 abbrev pub HeadersFrom : Mode → List Heading → List ℕ → Type 0
 HeadersFrom mode [] w = w ≡ w
-HeadersFrom mode (h ∷ hs) w = (x z : List ℕ) × HeaderStands mode h w x × HeadersStand mode hs x z
+HeadersFrom mode (h ∷ hs) w = (len : Length) × (header x z : List ℕ) × IsHeader mode h.tag h.constructed len header
+    × (w ≡ header ++ x) × HeadersStand mode hs x z
 
 -- ---- calls of a closure
 
@@ -61,7 +56,7 @@ pub record WereCalls (c : Reading) (calls : List Heading) (d : Reading) : Type 0
   -- for each call, at least two octets were taken
   pub twice : 2 * length calls + length d.stream.rest ≤ length c.stream.rest
   -- content that isn't open, or is at its end, gets no call
-  pub usable : (calls ≡ [] → ⊥) → (c.state ≡ Open) × NotAtEnd c
+  pub usable : (calls ≡ [] → ⊥) → (c.state ≡ Open) × ((after : List ℕ) → EndsBefore c after → ⊥)
 
 -- ---- one value
 
@@ -84,13 +79,6 @@ pub data RefusesSkip {F X : Type 0} (why : X → Cause ContentError) (step : Ste
   -- memory ran out for a constructed value at a depth of four or more
   by_memory : (calls : List Heading) (h : Heading) → Called step f (calls ++ h ∷ []) g → WereCalls c (calls ++ h ∷ []) d
       → h.constructed ≡ true → 4 ≤ h.depth → why e ≡ of_memory → RefusesSkip why step c f e g d
-
--- a call passed over the next value, or found the end, or refused; `why` gives the cause of its error
-pub record SkippedBy {F T X : Type 0} (why : X → Cause ContentError) (step : Steps F ContentError) (c : Reading) (f : F)
-    (r : Result (Option T) X) (g : F) (d : Reading) : Type 0 where
-  pub next : NextBy any (λ i _ j. SkipsValue step i f g j) (λ i e j. RefusesSkip why step i f e g j) c r d
-  -- None: the closure wasn't called
-  pub uncalled : IfOk r (λ o. IfNone o (g ≡ f))
 
 -- a call passed over the next value, which had to be there, or refused
 pub record SkippedValueBy {F T S : Type 0} (step : Steps F ContentError) (c : Reading) (f : F) (r : Result T (DecodeError S)) (g : F)
@@ -122,17 +110,7 @@ pub data RefusesSkipAll {X : Type 0} (why : X → Cause ContentError) (c : Readi
   -- some values were passed, and then a deep one was met
   by_depth : (j : Reading) → Walks c j → GoesDeep j d → why e ≡ of_memory → RefusesSkipAll why c e d
 
--- ---- of parameters, from entry to exit
-
-module _ {S F : Type 0} (stream : S → Stream) (step : Steps F ContentError) (c : Both (MutBor (Constructed S)) (MutBor (Constructed S)))
-    (op : Both (MutBor F) (MutBor F)) where
-  -- what a call that passes over the next value promises about content, the closure and its result
-  abbrev pub SkippedNext : {T X : Type 0} → Result (Option T) (DecodeError X) → Type 0
-  SkippedNext r = SkippedBy cause_of step (of_constructed stream c.entry.now) op.entry.now r op.exit.now (of_constructed stream c.exit.now)
-
-  -- what a call promises that passes over a value, which has to be there
-  abbrev pub SkippedValue : {T X : Type 0} → Result T (DecodeError X) → Type 0
-  SkippedValue r = SkippedValueBy step (of_constructed stream c.entry.now) op.entry.now r op.exit.now (of_constructed stream c.exit.now)
+-- ---- of a parameter, from entry to exit
 
 module _ {S : Type 0} (stream : S → Stream) (c : Both (MutBor (Constructed S)) (MutBor (Constructed S))) where
   abbrev pub SkippedOne : {T X : Type 0} → Result (Option T) (DecodeError X) → Type 0

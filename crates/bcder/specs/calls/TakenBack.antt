@@ -3,13 +3,15 @@ use Rattle.std.specs.Prelude.{◌≡◌, ◌⊎◌, List, ℕ, ◌++◌, Option,
 use Rattle.bcder.specs.declared.mode.Mode.{Mode}
 use Rattle.bcder.specs.declared.decode.content.State.TheVariants.{Open}
 use Rattle.bcder.specs.declared.decode.error.DecodeError.{DecodeError}
+use Rattle.bcder.specs.calls.Valued.{TakesTree}
+use Rattle.bcder.specs.calls.Takes.{OneBy, NextBy}
 use Rattle.bcder.specs.calls.Cause.{cause_of, of_source, of_memory}
 use Rattle.bcder.specs.x690.Identifier.{Tag}
 use Rattle.bcder.specs.calls.Stream.{Grew}
-use Rattle.bcder.specs.calls.Content.{Reading}
+use Rattle.bcder.specs.calls.Content.{tagged, Reading}
 use Rattle.bcder.specs.calls.Meaning.{Encoded, Meaning}
 use Rattle.bcder.specs.calls.Readers.{MeanNothing}
-use Rattle.bcder.specs.calls.Typed.{TakesNextAs, PassesNextAs, TakesOneAs}
+use Rattle.bcder.specs.calls.Typed.{InPrimitive, RefusesAs, PassesNextAs}
 
 -- the octets w come next in open content in the mode, before those of `after`
 pub record StandsIn (mode : Mode) (w after : List ℕ) (c : Reading) : Type 0 where
@@ -40,8 +42,10 @@ module _ {X : Type 0} (Fails : Reading → DecodeError X → Reading → Type 0)
   module _ {T : Type 0} (tag : Tag) (Means : List ℕ → T → Type 0) (Refuses : List ℕ → DecodeError X → Type 0) where
     -- each typed take of c returns x, and leaves `after`
     pub record TakesBack (x : T) (after : List ℕ) (c : Reading) : Type 0 where
-      pub one : (r : Result T (DecodeError X)) (d : Reading) → TakesOneAs tag Means Refuses c r d → AnswersLeaving x after c r d
-      pub next : (r : Result (Option T) (DecodeError X)) (d : Reading) → TakesNextAs tag Means Refuses c r d
+      pub one : (r : Result T (DecodeError X)) (d : Reading)
+          → OneBy (tagged tag) (TakesTree tag (InPrimitive Means)) (RefusesAs tag Refuses) c r d → AnswersLeaving x after c r d
+      pub next : (r : Result (Option T) (DecodeError X)) (d : Reading)
+          → NextBy (tagged tag) (TakesTree tag (InPrimitive Means)) (RefusesAs tag Refuses) c r d
           → AnswersLeaving (Some x) after c r d
       pub passed : (r : Result T (DecodeError X)) (d : Reading) → PassesNextAs tag Means Refuses c r d → AnswersLeaving x after c r d
 

@@ -1,24 +1,19 @@
 -- Values of a tag, of either form, taken as what they mean.
 use Rattle.std.specs.Prelude.{◌≡◌, ◌≢◌, ◌⊎◌, true, List, ℕ, Some, Option, length, Result, IfOk, IfErr, OnOk}
-use Rattle.std.specs.Borrow.{MutBor}
-use denote.Triple.Both.{Both}
 use Rattle.bcder.specs.declared.mode.Mode.{Mode}
 use Rattle.bcder.specs.declared.mode.Mode.TheVariants.{Der}
-use Rattle.bcder.specs.declared.decode.content.Constructed.{Constructed}
-use Rattle.bcder.specs.declared.decode.content.Content.{Content}
 use Rattle.bcder.specs.declared.decode.content.State.TheVariants.{Open, Ended, Failed}
 use Rattle.bcder.specs.declared.decode.error.DecodeError.{DecodeError}
 use Rattle.bcder.specs.calls.Cause.{cause_of, of_source, of_memory, IsRefusal}
 use Rattle.bcder.specs.x690.Identifier.{Tag}
 use Rattle.bcder.specs.x690.Tree.{Tree, primitive, constructed, Trees, no_trees}
-use Rattle.bcder.specs.calls.Stream.{Stream, Grew}
+use Rattle.bcder.specs.calls.Stream.{Grew}
 use Rattle.bcder.specs.calls.Content.{Reading, Octets, tagged, IsAbsent, IsDone, HasHeader}
 use Rattle.bcder.specs.calls.Refusals.{Refuses}
 use Rattle.bcder.specs.calls.Walking.{HasValue, HasValues}
 use Rattle.bcder.specs.calls.Takes.{NextBy, OneBy}
 use Rattle.bcder.specs.calls.CapturingValues.{HasValuesOrDeep}
 use Rattle.bcder.specs.x690.OctetString.{AreSegmentsIn}
-use Rattle.bcder.specs.calls.Views.{before, after, content_before, content_after}
 
 -- ---- the content of a value
 
@@ -86,29 +81,25 @@ abbrev pub tag_of : Tree → Tag
 tag_of (primitive t contents) = t
 tag_of (constructed t ts) = t
 
--- an encoding of a value with the tag comes next in open content, before the octets `rest`
-abbrev pub HasTagged : Tag → Reading → Tree → List ℕ → List ℕ → Type 0
-HasTagged tag c t w rest = HasValue c t w rest × (tag_of t ≡ tag)
-
 module _ {T : Type 0} (tag : Tag) (Means : Tree → T → Type 0) where
   -- a value was taken as what it means
   pub record TakesTree (c : Reading) (x : T) (d : Reading) : Type 0 where
     pub tree : Tree
     pub octets : List ℕ
-    pub has : HasTagged tag c tree octets d.stream.rest
+    pub has : HasValue c tree octets d.stream.rest × (tag_of tree ≡ tag)
     pub means : Means tree x
     pub stays : d.state ≡ Open
 
   -- no value with the tag that means anything comes next, and content does not show that there is none with the tag
   pub record HasNoTree (c : Reading) : Type 0 where
     pub usable : c.state ≡ Open
-    pub value : (t : Tree) (w rest : List ℕ) (x : T) → HasTagged tag c t w rest → Means t x → ⊥
+    pub value : (t : Tree) (w rest : List ℕ) (x : T) → HasValue c t w rest × (tag_of t ≡ tag) → Means t x → ⊥
     pub absent : (rest : List ℕ) → IsAbsent (tagged tag) c rest → ⊥
 
   -- what memory may run out for: a value with the tag that means something; or, outside DER, a constructed one,
   -- which is kept before it is known whether it means anything
   pub data WantsMemoryFor (c : Reading) : Type 0 where
-    of_value : (t : Tree) (w rest : List ℕ) (x : T) → HasTagged tag c t w rest → Means t x → WantsMemoryFor c
+    of_value : (t : Tree) (w rest : List ℕ) (x : T) → HasValue c t w rest × (tag_of t ≡ tag) → Means t x → WantsMemoryFor c
     of_header : c.mode ≢ Der → (after : List ℕ) (h : HasHeader (tagged tag) c after) → h.form ≡ true → WantsMemoryFor c
 
   module _ {X : Type 0} where
@@ -124,20 +115,7 @@ module _ {T : Type 0} (tag : Tag) (Means : Tree → T → Type 0) where
     abbrev pub TakesOneTree : Reading → Result T (DecodeError X) → Reading → Type 0
     TakesOneTree = OneBy (tagged tag) TakesTree RefusesTree
 
--- ---- of a parameter, from entry to exit; what a value means may depend on the mode
-
--- content was read, whatever the tag of its value
+-- content was read, whatever the tag of its value; what that means may depend on the mode
 pub record ReadsAny {T X : Type 0} (Means : Mode → Tree → T → Type 0) (c : Reading) (r : Result T (DecodeError X))
     (d : Reading) : Type 0 where
   pub at_tag : (tag : Tag) → ReadsContent tag (Means c.mode) c r d
-
-module _ {S T X : Type 0} (stream : S → Stream) where
-  abbrev pub ReadTree : Both (MutBor (Content S)) (MutBor (Content S)) → (Mode → Tree → T → Type 0) → Result T (DecodeError X) → Type 0
-  ReadTree c Means r = ReadsAny Means (content_before stream c) r (content_after stream c)
-
-  module _ (c : Both (MutBor (Constructed S)) (MutBor (Constructed S))) (tag : Tag) (Means : Mode → Tree → T → Type 0) where
-    abbrev pub TookNextTree : Result (Option T) (DecodeError X) → Type 0
-    TookNextTree r = TakesNextTree tag (Means (before stream c).mode) (before stream c) r (after stream c)
-
-    abbrev pub TookOneTree : Result T (DecodeError X) → Type 0
-    TookOneTree r = TakesOneTree tag (Means (before stream c).mode) (before stream c) r (after stream c)

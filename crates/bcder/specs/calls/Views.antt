@@ -8,7 +8,7 @@ use Rattle.bcder.specs.declared.decode.content.Content.{Content}
 use Rattle.bcder.specs.declared.decode.content.Content.TheVariants as content
 use Rattle.bcder.specs.declared.decode.content.State.TheVariants as state
 use Rattle.bcder.specs.calls.Stream.{Stream, limited, borrowed}
-use Rattle.bcder.specs.calls.Content.{Reading, Octets, values, Carries}
+use Rattle.bcder.specs.calls.Content.{Reading, Octets, values, Moves}
 use denote.Triple.Both.{Both}
 
 module _ {S : Type 0} (stream : S → Stream) where
@@ -17,7 +17,7 @@ module _ {S : Type 0} (stream : S → Stream) where
 
   unfoldable pub of_constructed : Constructed S → Reading
   of_constructed c = record {
-    stream = limited_stream c.source.now;
+    stream = limited c.source.now.limit (stream c.source.now.source);
     owed = c.source.now.limit;
     kind = values c.kind;
     state = c.state;
@@ -28,7 +28,7 @@ module _ {S : Type 0} (stream : S → Stream) where
 
   unfoldable pub of_primitive : Primitive S → Reading
   of_primitive c = record {
-    stream = limited_stream c.source.now;
+    stream = limited c.source.now.limit (stream c.source.now.source);
     owed = c.source.now.limit;
     kind = Octets;
     state = state.Open;
@@ -81,12 +81,13 @@ content_before stream c = of_content stream c.entry.now
 abbrev pub content_after : {S : Type 0} → (S → Stream) → Both (MutBor (Content S)) (MutBor (Content S)) → Reading
 content_after stream c = of_content stream c.exit.now
 
--- what a parameter of constructed content, of octets or of either is at exit was reached by lawful steps from what it was at entry
+-- whatever moved to what a parameter of constructed content, of octets or of either is at entry moves to what it is at exit,
+-- so that steps in a row chain by themselves
 abbrev pub Moved : {S : Type 0} → (S → Stream) → Both (MutBor (Constructed S)) (MutBor (Constructed S)) → Type 0
-Moved stream c = Carries (of_constructed stream c.entry.now) (of_constructed stream c.exit.now)
+Moved stream c = (b : Reading) → Moves b (of_constructed stream c.entry.now) → Moves b (of_constructed stream c.exit.now)
 
 abbrev pub MovedOctets : {S : Type 0} → (S → Stream) → Both (MutBor (Primitive S)) (MutBor (Primitive S)) → Type 0
-MovedOctets stream c = Carries (of_primitive stream c.entry.now) (of_primitive stream c.exit.now)
+MovedOctets stream c = (b : Reading) → Moves b (of_primitive stream c.entry.now) → Moves b (of_primitive stream c.exit.now)
 
 abbrev pub MovedContent : {S : Type 0} → (S → Stream) → Both (MutBor (Content S)) (MutBor (Content S)) → Type 0
-MovedContent stream c = Carries (of_content stream c.entry.now) (of_content stream c.exit.now)
+MovedContent stream c = (b : Reading) → Moves b (of_content stream c.entry.now) → Moves b (of_content stream c.exit.now)

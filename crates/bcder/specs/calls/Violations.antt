@@ -26,16 +26,14 @@ violation_text v.DefiniteInCer = codes "definite length of a constructed value i
 violation_text v.ValueTooLong = codes "value longer than the value around it"
 violation_text v.StrayEnd = codes "end-of-contents octets where none belong"
 
--- no end-of-contents octets come next
-abbrev pub HasNoEnd : Mode → List ℕ → Type 0
-HasNoEnd mode w = (end after : List ℕ) → IsEndOfContents mode end → w ≡ end ++ after → ⊥
-
 -- the next octets are no header in the mode, for the named reason
 pub data ViolatesFront (mode : Mode) (w : List ℕ) (r : Violation) : Type 0 where
   truncated_header : r ≡ v.TruncatedHeader → EndsInHeader w → ViolatesFront mode w r
   tag_not_fewest : r ≡ v.TagNotFewest → TagNotFewest w → ViolatesFront mode w r
   tag_too_large : r ≡ v.TagTooLarge → TagTooLarge w → ViolatesFront mode w r
-  reserved_tag : r ≡ v.ReservedTag → HasTag (λ t f y. t ≡ end_of_contents) w → HasNoEnd mode w → ViolatesFront mode w r
+  -- but no end-of-contents octets
+  reserved_tag : r ≡ v.ReservedTag → HasTag (λ t f y. t ≡ end_of_contents) w
+      → ((end after : List ℕ) → IsEndOfContents mode end → w ≡ end ++ after → ⊥) → ViolatesFront mode w r
   reserved_length : r ≡ v.ReservedLength → HasTag (λ t f y. LengthReserved y) w → ViolatesFront mode w r
   length_too_large : r ≡ v.LengthTooLarge → HasTag (λ t f y. LengthTooLarge y) w → ViolatesFront mode w r
   length_not_fewest : r ≡ v.LengthNotFewest → HasTag (λ t f y. LengthNotFewest mode y) w → ViolatesFront mode w r

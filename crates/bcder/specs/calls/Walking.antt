@@ -15,10 +15,9 @@ use Rattle.bcder.specs.calls.Cause.{Cause, cause_of, IsOfContent}
 use Rattle.bcder.specs.declared.decode.error.DecodeError.{DecodeError}
 use Rattle.bcder.specs.declared.decode.content.Constructed.{Constructed}
 use Rattle.bcder.specs.calls.Views.{of_constructed}
-use Rattle.bcder.specs.calls.Content.{Reading, ContentForm, values, Octets, Moves, HasMarker}
-use Rattle.bcder.specs.calls.Content.{NotAtEnd, IsDone, any, NothingThere, Resembles}
+use Rattle.bcder.specs.calls.Content.{EndsBefore, Reading, ContentForm, values, Octets, Moves, HasMarker}
+use Rattle.bcder.specs.calls.Content.{IsDone, any, NothingThere, Resembles}
 use Rattle.bcder.specs.calls.Refusals.{Refuses}
-use Rattle.bcder.specs.calls.Takes.{NextBy}
 
 -- ---- one value
 
@@ -35,7 +34,7 @@ pub record HasNoValue (c : Reading) : Type 0 where
 -- open content is not at its end, and no value comes next
 pub record HasNoNext (c : Reading) : Type 0 where
   pub usable : c.state ≡ Open
-  pub some : NotAtEnd c
+  pub some : (after : List ℕ) → EndsBefore c after → ⊥
   pub none : HasNoValue c
 
 -- the one value that comes next was passed
@@ -64,17 +63,14 @@ pub record HasValues (c : Reading) : Type 0 where
   pub rest : c.stream.rest ≡ all ++ after
   pub closes : ClosesBefore c.kind c.mode c.owed all after
 
--- fewer octets came than are owed
-pub record IsShort (c : Reading) : Type 0 where
-  pub short : (n : ℕ) → c.owed ≡ Some n → length c.stream.rest < n
-
 -- content is not octets, and no values up to its end
 abbrev pub HasNoValues : Reading → Type 0
 HasNoValues c = (c.kind ≢ Octets) × (HasValues c → ⊥)
 
 -- why content was not passed to its end, with error e: it is no values, or too few octets; `why` gives the cause of e
 abbrev pub RefusesValues : {E : Type 0} → (E → Cause ContentError) → Reading → E → Reading → Type 0
-RefusesValues why c e d = Refuses why any HasNoValues ((c.kind ≡ Octets) × IsShort c × IsOfContent (why e)) c e d
+RefusesValues why c e d = Refuses why any HasNoValues
+    ((c.kind ≡ Octets) × ((n : ℕ) → c.owed ≡ Some n → length c.stream.rest < n) × IsOfContent (why e)) c e d
 
 -- content was passed to its end, or refused
 pub record AllBy {T E : Type 0} (IsRefused : Reading → E → Reading → Type 0) (c : Reading) (r : Result T E) (d : Reading) : Type 0 where
@@ -108,8 +104,3 @@ pub record Walks (c d : Reading) : Type 0 where
 module _ {S : Type 0} (stream : S → Stream) (c : Both (MutBor (Constructed S)) (MutBor (Constructed S))) where
   abbrev pub Between : (Reading → Reading → Type 0) → Type 0
   Between R = R (of_constructed stream c.entry.now) (of_constructed stream c.exit.now)
-
-  -- what a call that passes over the next value promises about content and its result
-  abbrev pub PassedNext : {T X : Type 0} → Result (Option T) (DecodeError X) → Type 0
-  PassedNext r = NextBy any (λ i _ j. PassesValue i j) (Refuses cause_of any HasNoNext ⊥) (of_constructed stream c.entry.now) r
-      (of_constructed stream c.exit.now)

@@ -13,10 +13,12 @@ use Rattle.bcder.specs.x690.Tree.{Tree}
 use Rattle.bcder.specs.x690.Preorder.{Heading, preorder}
 use Rattle.bcder.specs.calls.Stream.{Stream, Grew}
 use Rattle.bcder.specs.calls.Captured.{Kept}
-use Rattle.bcder.specs.calls.Content.{Reading, EndsBefore}
-use Rattle.bcder.specs.calls.Walking.{HasValue, HasValues, PassedNext}
-use Rattle.bcder.specs.calls.Skipping.{Steps, Called, SkippedNext, SkippedValue, SkippedOne, SkippedAll}
-use Rattle.bcder.specs.calls.CapturingValues.{CapturedOne, CapturedNext, CapturedAll}
+use Rattle.bcder.specs.calls.Content.{Reading, any, EndsBefore}
+use Rattle.bcder.specs.calls.Walking.{HasValue, HasValues, HasNoValue, HasNoNext, PassesValue}
+use Rattle.bcder.specs.calls.Skipping.{Steps, Called, SkipsValue, RefusesSkip, SkippedValueBy, SkippedOne, SkippedAll}
+use Rattle.bcder.specs.calls.CapturingValues.{CapturesBy, CapturesValue, CapturesNext, CapturesValues, HasValueOrDeep, HasOthers, HasValuesOrDeep}
+use Rattle.bcder.specs.calls.Refusals.{Refuses}
+use Rattle.bcder.specs.calls.Takes.{NextBy}
 use Rattle.bcder.specs.calls.Views.{before, after}
 
 -- ---- what is returned, unless the source failed
@@ -70,7 +72,8 @@ module _ {S : Type 0} (stream : S → Stream) where
 
   -- a walk passes a value if one comes next
   abbrev pub WalksExactly : Type 0 → Type 0
-  WalksExactly X = Follows {T = Option (Unit {0})} {X = X} (λ c r. PassedNext stream c r)
+  WalksExactly X = Follows {T = Option (Unit {0})} {X = X} (λ c r. NextBy any (λ i _ j. PassesValue i j)
+      (Refuses cause_of any HasNoNext ⊥) (before stream c) r (after stream c))
       (λ c r. AnswersNext (before stream c) r (after stream c))
 
   -- so does a call without a closure, if memory was found
@@ -85,24 +88,30 @@ module _ {S : Type 0} (stream : S → Stream) where
 
   -- a value is captured if one comes next, whether or not it has to
   abbrev pub CapturesOneExactly : Type 0 → Type 0
-  CapturesOneExactly X = Follows {T = Kept} {X = X} (λ c r. CapturedOne stream c r)
+  CapturesOneExactly X = Follows {T = Kept} {X = X}
+      (λ c r. CapturesBy CapturesValue HasNoValue HasValueOrDeep (before stream c) r (after stream c))
       (λ c r. FoundMemory r → (t : Tree) (w after : List ℕ) → HasValue (before stream c) t w after → IsOkAnd r (λ k. k.octets ≡ w))
 
   abbrev pub CapturesNextExactly : Type 0 → Type 0
-  CapturesNextExactly X = Follows {T = Option Kept} {X = X} (λ c r. CapturedNext stream c r) (λ c r. AnswersCapture (before stream c) r)
+  CapturesNextExactly X = Follows {T = Option Kept} {X = X} (λ c r. CapturesNext (before stream c) r (after stream c))
+      (λ c r. AnswersCapture (before stream c) r)
 
   -- all values are captured if encodings go on up to the end, or the content has ended
   abbrev pub CapturesAllExactly : Type 0 → Type 0
-  CapturesAllExactly X = Follows {T = Kept} {X = X} (λ c r. CapturedAll stream c r) (λ c r. FoundMemory r
+  CapturesAllExactly X = Follows {T = Kept} {X = X}
+      (λ c r. CapturesBy CapturesValues HasOthers HasValuesOrDeep (before stream c) r (after stream c)) (λ c r. FoundMemory r
       → (HasValues (before stream c) → (before stream c).state ≡ Open → IsOk r) × ((before stream c).state ≡ Ended → IsOk r))
 
 -- a value is skipped if one comes next that may be, whether or not it has to
 module _ {S F : Type 0} (stream : S → Stream) (step : Steps F ContentError) (X : Type 0) where
   abbrev pub SkipsExactly : Type 0
   SkipsExactly = (op : Both (MutBor F) (MutBor F)) → Follows stream {T = Option (Unit {0})} {X = X}
-      (λ c r. SkippedNext stream step c op r) (λ c r. AnswersSkip step (before stream c) op.entry.now r (after stream c))
+      (λ c r. NextBy any (λ i _ j. SkipsValue step i op.entry.now op.exit.now j)
+      (λ i e j. RefusesSkip cause_of step i op.entry.now e op.exit.now j) (before stream c) r (after stream c))
+      (λ c r. AnswersSkip step (before stream c) op.entry.now r (after stream c))
 
   abbrev pub SkipsOneExactly : Type 0
-  SkipsOneExactly = (op : Both (MutBor F) (MutBor F)) → Follows stream {T = Unit {0}} {X = X} (λ c r. SkippedValue stream step c op r)
+  SkipsOneExactly = (op : Both (MutBor F) (MutBor F)) → Follows stream {T = Unit {0}} {X = X}
+      (λ c r. SkippedValueBy step (before stream c) op.entry.now r op.exit.now (after stream c))
       (λ c r. (t : Tree) (w rest : List ℕ) → HasValue (before stream c) t w rest → MaySkip step op.entry.now t r
       → IsOkAnd r (λ _. (after stream c).stream.rest ≡ rest))

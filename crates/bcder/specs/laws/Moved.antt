@@ -8,7 +8,8 @@ use Rattle.bcder.specs.declared.mode.Mode.TheVariants.{Ber}
 use Rattle.bcder.specs.declared.decode.content.State.TheVariants.{Ended, Failed}
 use Rattle.bcder.specs.x690.Length.{IsEndOfContents}
 use Rattle.bcder.specs.x690.Tree.{no_trees, ◌+++◌}
-use Rattle.bcder.specs.calls.Content.{Reading, IndefiniteValues, label, Moves, Carries, Whole, Falls, Closes}
+use Rattle.bcder.specs.declared.decode.content.Kind.TheVariants as kind
+use Rattle.bcder.specs.calls.Content.{Reading, label, Moves, Whole, Falls, Closes, values}
 use Rattle.bcder.specs.laws.Lists.{AreEncodings-join}
 use Rattle.bcder.specs.laws.Canonical.{AreEncodings-in_ber}
 use Rattle.bcder.specs.laws.Lengths.{IsLengthForm-from_length}
@@ -100,8 +101,8 @@ whole_both c d e p q k g f done a b =
     whole_trans (label c.mode e.marked) c d e p q a' k done a'.closes
     (subst (λ x. Whole x d q e) (label_of c.mode d.mode d.marked e.marked f g) b)
 
-ends_trans : (c d e : Reading) → d.kind ≡ c.kind → (d.state ≡ Ended → (c.state ≡ Ended) ⊎ (c.kind ≡ IndefiniteValues))
-    → (d.state ≡ Ended) ⊎ (d.kind ≡ IndefiniteValues) → (c.state ≡ Ended) ⊎ (c.kind ≡ IndefiniteValues)
+ends_trans : (c d e : Reading) → d.kind ≡ c.kind → (d.state ≡ Ended → (c.state ≡ Ended) ⊎ (c.kind ≡ values kind.Indefinite))
+    → (d.state ≡ Ended) ⊎ (d.kind ≡ values kind.Indefinite) → (c.state ≡ Ended) ⊎ (c.kind ≡ values kind.Indefinite)
 ends_trans c d e k f (inl s) = f s
 ends_trans c d e k f (inr s) = inr (sym k ∙ s)
 
@@ -148,6 +149,10 @@ moved_twice_is_moved c d e a b = record {
   whole = λ n o. whole_both c d e a.passed b.passed a.kind a.mode b.marked (λ t. (b.ended t).1) (a.whole (not_failed d e b.failed n) o)
       (b.whole n (λ k. o (sym a.kind ∙ k)));
 }
+
+-- whatever moved to c moves to d
+abbrev pub Carries : Reading → Reading → Type 0
+Carries c d = (b : Reading) → Moves b c → Moves b d
 
 -- whatever moved to content moves on with it
 pub moved_carries : (c d : Reading) → Moves c d → Carries c d

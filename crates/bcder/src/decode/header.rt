@@ -4,7 +4,7 @@ ghost use Rattle.std.specs.Prelude.{IsTrue, Some, None, IfSome, MatchOption, IfO
 ghost use Rattle.bcder.specs.calls.Changed.{SameFaults, MoreFaults, SameRest, SamePosition};
 ghost use Rattle.bcder.specs.calls.Changed.{SameKept};
 ghost use Rattle.bcder.specs.calls.Content.{IsAsked};
-ghost use Rattle.bcder.specs.calls.Violations.{HasNoEnd, ViolatesFront};
+ghost use Rattle.bcder.specs.calls.Violations.{ViolatesFront};
 ghost use Rattle.bcder.specs.declared.mode.Mode.{Mode as ModeValue};
 ghost use Rattle.bcder.specs.steps.Peek.{asked, header_of, octets_header, is_constructed, len_of};
 ghost use Rattle.bcder.specs.steps.Peek.{Fronts, Peeks, Sees, Shows};
@@ -12,6 +12,7 @@ ghost use Rattle.bcder.specs.steps.Peek.{HasHeaderOctets, IsFront, IsFrontOf};
 ghost use Rattle.bcder.specs.steps.Reading.{read_header, class_of, is_marked};
 ghost use Rattle.bcder.specs.x690.Encoding.{may_have};
 ghost use Rattle.bcder.specs.x690.Identifier.{is_value_tag};
+ghost use Rattle.bcder.specs.x690.Length.{IsEndOfContents};
 
 use crate::decode::source::Source;
 use crate::decode::violation::Violation;
@@ -134,7 +135,8 @@ pub(crate) fn header_at(mode: Mode, octets: &[u8]) -> Option<(Header, &[u8])>
 /// Returns what a tag, a constructed bit and a length violate, if they don't form a header.
 fn form_violation(mode: Mode, tag: Tag, constructed: bool, len: Length) -> Violation
     requires { is_value_tag tag ≡ true → may_have mode constructed len ≡ false }
-    ensures { (w : List ℕ) → HasHeaderOctets mode tag constructed len w → HasNoEnd mode w
+    ensures { (w : List ℕ) → HasHeaderOctets mode tag constructed len w
+        → ((end after : List ℕ) → IsEndOfContents mode end → w ≡ end ++ after → ⊥)
         → ViolatesFront mode w result }
 {
     if !tag.is_value() {

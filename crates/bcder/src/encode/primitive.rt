@@ -6,7 +6,7 @@ ghost use Rattle.bcder.specs.calls.Meaning.{ContentsMeaning, IsLawfulContents, V
 ghost use Rattle.bcder.specs.calls.Meaning.{primitive_meaning};
 ghost use Rattle.bcder.specs.steps.Enclosing.{ContentsSize};
 ghost use Rattle.bcder.specs.calls.Encoders.{SizeOfContents, WritesContents, GathersContents};
-ghost use Rattle.bcder.specs.calls.Encoders.{SizeOfValues, WritesValues, HasContents};
+ghost use Rattle.bcder.specs.calls.Encoders.{SizeOfValues, HasContents};
 ghost use Rattle.bcder.specs.calls.Encoders.{WritesPrimitive, into_result};
 ghost use Rattle.bcder.specs.calls.Noted.{ReadsNone};
 ghost use Rattle.bcder.specs.laws.Meanings.{primitive_lawful};

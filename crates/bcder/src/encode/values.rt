@@ -1,8 +1,8 @@
 //! Encoders of lists of values.
 ghost use Rattle.std.specs.Prelude.{◌≡◌, ⊤, ℕ, List, [], IfOk};
 ghost use Rattle.bcder.specs.declared.mode.Mode.{Mode};
-ghost use Rattle.bcder.specs.calls.Meaning.{Meaning, IsLawful};
-ghost use Rattle.bcder.specs.calls.Encoders.{HasEncoding, SizeOfValues, WritesValues, WritesKnown};
+ghost use Rattle.bcder.specs.calls.Meaning.{Encoded, Meaning, IsLawful};
+ghost use Rattle.bcder.specs.calls.Encoders.{HasEncoding, SizeOfValues, Writes, WritesKnown};
 ghost use Rattle.bcder.specs.calls.Encoders.{into_result};
 ghost use Rattle.bcder.specs.calls.Noted.{ReadsInside, Notes, MayRead, HasRead};
 ghost use Rattle.bcder.specs.calls.Noted.{noted};
@@ -85,8 +85,8 @@ pub trait Values {
     /// - `Target` if the target fails; a proper prefix of the octets was written then.
     fn write_encoded<W: io::Write>(&self, mode: Mode, target: &mut W) -> Result<(), WriteError>
         requires { can_encode self.now }
-        ensures { WritesValues W.contents target
-            (means self.now mode) (may_lack self.now mode) result };
+        ensures { Writes (λ (e : Encoded). e.octets) (means self.now mode) (may_lack self.now mode)
+            (W.contents target.old) (W.contents target.new) result };
 
     /// Writes an encoding that is known to exist, so that an encoder of many parts looks for
     /// refusals only once. Sizes for length octets are read from those that are left. `Pass` tells

@@ -1,5 +1,5 @@
 use Rattle.std.proofs.Common.{length}
-use Rattle.bcder.specs.calls.Content.{Carries}
+use Rattle.bcder.specs.laws.Moved.{Carries}
 use Rattle.bcder.specs.calls.Views.{of_constructed}
 use Rattle.user.proofs.count_all.Given as goal
 

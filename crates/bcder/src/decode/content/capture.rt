@@ -2,8 +2,8 @@
 ghost use Rattle.std.specs.Prelude.{◌≡◌, ◌≤◌, ◌++◌, ◌↔◌, length, IsTrue, IfOk, IfErr};
 ghost use Rattle.std.specs.Prelude.{OnOk, OnErr};
 ghost use Rattle.bcder.specs.calls.Calls.{IsOver, MayBeCalledOn, IsLawfulOn};
-ghost use Rattle.bcder.specs.calls.Capturing.{CallableOnCapture, LawfulOnCapture, CapturedWhat};
-ghost use Rattle.bcder.specs.calls.Capturing.{RefusedCapture, RanFrom, CapturesOver};
+ghost use Rattle.bcder.specs.calls.Capturing.{of_captured, IsCaptureOf, Captures, RefusesCapture};
+ghost use Rattle.bcder.specs.calls.Capturing.{RanFrom, CapturesOver};
 ghost use Rattle.bcder.specs.calls.Capturing.{CallableOver, LawfulOver};
 ghost use Rattle.bcder.specs.calls.Cause.{cause_of, MatchCause};
 ghost use Rattle.bcder.specs.calls.Content.{label, values};
@@ -190,11 +190,15 @@ impl<'a, S: Source> Constructed<'a, S> {
         F: FnOnce(
             &mut Constructed<'_, CaptureSource<'_, LimitedSource<S>>>,
         ) -> Result<(), DecodeError<S::Error>>,
-        requires callable { CallableOnCapture S.stream self (F.pre op) }
-        requires lawful { LawfulOnCapture S.stream self (F.post op) }
+        requires callable { MayBeCalledOn (of_captured S.stream)
+            (IsCaptureOf (of_constructed S.stream self.old)) (F.pre op) }
+        requires lawful { IsLawfulOn (of_captured S.stream)
+            (IsCaptureOf (of_constructed S.stream self.old)) (F.post op) }
         ensures moves { Moved S.stream self }
-        ensures captured { CapturedWhat S.stream (F.post op) self result }
-        ensures refused { RefusedCapture S.stream (F.post op) self result }
+        ensures captured { IfOk result (λ k. Captures (of_captured S.stream) (F.post op)
+            (before S.stream self) k (after S.stream self)) }
+        ensures refused { IfErr result (λ e. RefusesCapture (of_captured S.stream) (F.post op)
+            (before S.stream self) e (after S.stream self)) }
         ensures mode { (after S.stream self).mode ≡ (before S.stream self).mode }
     {
         let start = self.position();

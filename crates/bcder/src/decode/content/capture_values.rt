@@ -1,8 +1,11 @@
 //! Capturing the next value, or all values.
-ghost use Rattle.bcder.specs.calls.CapturingValues.{CapturedOne, CapturedNext, CapturedAll};
-ghost use Rattle.bcder.specs.calls.CapturingValues.{PassedOne, PassedToEnd};
+ghost use Rattle.bcder.specs.calls.CapturingValues.{CapturesBy, CapturesValue, CapturesNext};
+ghost use Rattle.bcder.specs.calls.CapturingValues.{CapturesValues, HasValueOrDeep, HasOthers};
+ghost use Rattle.bcder.specs.calls.CapturingValues.{HasValuesOrDeep, PassesBy, PassesToEnd};
+ghost use Rattle.bcder.specs.calls.CapturingValues.{BeginsDeep, MetDeep};
 ghost use Rattle.bcder.specs.calls.Sources.{capturing};
-ghost use Rattle.bcder.specs.calls.Views.{Moved, limited_stream};
+ghost use Rattle.bcder.specs.calls.Views.{of_constructed, Moved, limited_stream};
+ghost use Rattle.bcder.specs.calls.Walking.{HasNoValue, PassesValue};
 
 use super::{Constructed, State};
 use crate::captured::Captured;
@@ -17,7 +20,8 @@ fn pass_all<S: Source>(
     alloc: Global,
 ) -> Result<(), DecodeError<S::Error>>
     ensures moves { Moved S.stream cons }
-    ensures passed { PassedToEnd S.stream cons result }
+    ensures passed { PassesBy PassesToEnd HasOthers MetDeep
+        (of_constructed S.stream cons.old) result (of_constructed S.stream cons.new) }
 {
     while cons.skip_one(alloc)?.is_some() {}
     Ok(())
@@ -44,13 +48,16 @@ impl<'a, S: Source> Constructed<'a, S> {
     /// The content is then as it was.
     pub fn capture_one(&mut self, alloc: Global) -> Result<Captured, DecodeError<S::Error>>
         ensures moves { Moved S.stream self }
-        ensures captured { CapturedOne S.stream self result }
+        ensures captured { CapturesBy CapturesValue HasNoValue HasValueOrDeep
+            (of_constructed S.stream self.old) result (of_constructed S.stream self.new) }
     {
         self.capture(
             alloc,
             |cons|
                 ensures moves { Moved (capturing (limited_stream S.stream)) cons }
-                ensures passed { PassedOne (capturing (limited_stream S.stream)) cons result }
+                ensures passed { PassesBy PassesValue HasNoValue BeginsDeep
+                    (of_constructed (capturing (limited_stream S.stream)) cons.old) result
+                    (of_constructed (capturing (limited_stream S.stream)) cons.new) }
             {
                 match cons.skip_one(alloc) {
                     Ok(Some(())) => Ok(()),
@@ -89,7 +96,8 @@ impl<'a, S: Source> Constructed<'a, S> {
         alloc: Global,
     ) -> Result<Option<Captured>, DecodeError<S::Error>>
         ensures moves { Moved S.stream self }
-        ensures captured { CapturedNext S.stream self result }
+        ensures captured { CapturesNext (of_constructed S.stream self.old) result
+            (of_constructed S.stream self.new) }
     {
         match self.find_next() {
             Ok(Some(())) => match self.capture_one(alloc) {
@@ -122,7 +130,8 @@ impl<'a, S: Source> Constructed<'a, S> {
     /// The content is then as it was.
     pub fn capture_all(&mut self, alloc: Global) -> Result<Captured, DecodeError<S::Error>>
         ensures moves { Moved S.stream self }
-        ensures captured { CapturedAll S.stream self result }
+        ensures captured { CapturesBy CapturesValues HasOthers HasValuesOrDeep
+            (of_constructed S.stream self.old) result (of_constructed S.stream self.new) }
     {
         self.capture(alloc, |cons| pass_all(cons, alloc))
     }

@@ -2,11 +2,11 @@
 ghost use Rattle.std.specs.Prelude.{◌≡◌, ◌≢◌, ◌≤◌, ◌++◌, ℕ, List, Ok, IfErr, IfOk, OnOk};
 ghost use Rattle.bcder.specs.calls.Calls.{Answered, MayBeCalledOn, IsLawfulOn, IsOver};
 ghost use Rattle.bcder.specs.calls.Cause.{cause_of};
-ghost use Rattle.bcder.specs.calls.Content.{Moves, UnboundedValues};
-ghost use Rattle.bcder.specs.calls.Decoding.{RefusesOn, RanOn, CallableOnAll, LawfulOnAll};
-ghost use Rattle.bcder.specs.calls.Decoding.{CallableOnLent, LawfulOnLent, DecodesAll, RefusesAll};
-ghost use Rattle.bcder.specs.calls.Decoding.{DecodesLent, RefusesLent};
-ghost use Rattle.bcder.specs.calls.Views.{of_constructed, limited_stream, before, after};
+ghost use Rattle.bcder.specs.calls.Content.{Moves, values};
+ghost use Rattle.bcder.specs.calls.Decoding.{RefusesOn, RanOn, IsAllOf, IsAllBehind};
+ghost use Rattle.bcder.specs.calls.Decoding.{Decodes, RefusesDecode};
+ghost use Rattle.bcder.specs.calls.Stream.{Stream, borrowed};
+ghost use Rattle.bcder.specs.calls.Views.{of_constructed, limited_stream, before, after, lent};
 
 use super::{Constructed, Kind, State};
 use crate::decode::error::DecodeError;
@@ -54,12 +54,12 @@ pub(super) fn run_over<S: Source, F, T: Drop>(
 where
     F: FnOnce(&mut Constructed<'_, S>) -> Result<T, DecodeError<S::Error>>,
     requires callable { MayBeCalledOn (of_constructed S.stream)
-        (IsOver (limited_stream S.stream source.old) source.old.limit UnboundedValues State.Open
-        mode)
+        (IsOver (limited_stream S.stream source.old) source.old.limit (values Kind.Unbounded)
+        State.Open mode)
         (F.pre op) }
     requires lawful { IsLawfulOn (of_constructed S.stream)
-        (IsOver (limited_stream S.stream source.old) source.old.limit UnboundedValues State.Open
-        mode)
+        (IsOver (limited_stream S.stream source.old) source.old.limit (values Kind.Unbounded)
+        State.Open mode)
         (F.post op) }
     ensures { RanOn cause_of (of_constructed S.stream) (F.post op)
         (limited_stream S.stream source.old) source.old.limit mode result
@@ -85,10 +85,15 @@ impl<'a, S: Source + Drop> Constructed<'a, S> {
     where
         I: IntoSource<Source = S>,
         F: FnOnce(&mut Constructed<'_, S>) -> Result<T, DecodeError<S::Error>>,
-        requires callable { CallableOnAll S.stream (I.gives source) mode (F.pre op) }
-        requires lawful { LawfulOnAll S.stream (I.gives source) mode (F.post op) }
-        ensures ok { DecodesAll S.stream (F.post op) (I.gives source) mode result }
-        ensures refused { RefusesAll S.stream (F.post op) (I.gives source) mode result }
+        requires callable { MayBeCalledOn (of_constructed S.stream)
+            (IsAllOf (I.gives source) mode) (F.pre op) }
+        requires lawful { IsLawfulOn (of_constructed S.stream)
+            (IsAllOf (I.gives source) mode) (F.post op) }
+        ensures ok { IfOk result (λ x. (left : Stream)
+            × Decodes (of_constructed S.stream) (F.post op) (I.gives source) mode x left) }
+        ensures refused { IfErr result (λ e. (left : Stream)
+            × RefusesDecode cause_of (of_constructed S.stream) (F.post op)
+            (I.gives source) mode e left) }
     {
         let mut limited = LimitedSource::new(source.into_source());
         run_over(&mut limited, mode, op)
@@ -111,10 +116,16 @@ impl<'a, S: Source> Constructed<'a, S> {
     ) -> Result<T, DecodeError<S::Error>>
     where
         F: FnOnce(&mut Constructed<'_, &mut S>) -> Result<T, DecodeError<S::Error>>,
-        requires callable { CallableOnLent S.stream source mode (F.pre op) }
-        requires lawful { LawfulOnLent S.stream source mode (F.post op) }
-        ensures ok { DecodesLent S.stream (F.post op) source mode result }
-        ensures refused { RefusesLent S.stream (F.post op) source mode result }
+        requires callable { MayBeCalledOn (of_constructed (lent S.stream))
+            (IsAllBehind (S.stream source.old) mode) (F.pre op) }
+        requires lawful { IsLawfulOn (of_constructed (lent S.stream))
+            (IsAllBehind (S.stream source.old) mode) (F.post op) }
+        ensures ok { IfOk result (λ x. (name : ℕ)
+            × Decodes (of_constructed (lent S.stream)) (F.post op)
+            (borrowed name (S.stream source.old)) mode x (borrowed name (S.stream source.new))) }
+        ensures refused { IfErr result (λ e. (name : ℕ)
+            × RefusesDecode cause_of (of_constructed (lent S.stream)) (F.post op)
+            (borrowed name (S.stream source.old)) mode e (borrowed name (S.stream source.new))) }
         ensures passed { (passed : List ℕ)
             × ((S.stream source.old).rest ≡ passed ++ (S.stream source.new).rest) }
         ensures faults { (S.stream source.old).faults ≤ (S.stream source.new).faults }

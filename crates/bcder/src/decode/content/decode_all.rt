@@ -2,12 +2,12 @@
 ghost use Rattle.std.specs.Prelude.{◌≡◌, IfOk, IfErr};
 ghost use Rattle.bcder.specs.calls.Calls.{MayBeCalledOn, IsLawfulOn};
 ghost use Rattle.bcder.specs.calls.Content.{Moves};
-ghost use Rattle.bcder.specs.calls.Decoding.{CallableOnAll, LawfulOnAll};
+ghost use Rattle.bcder.specs.calls.Decoding.{IsAllOf};
 ghost use Rattle.bcder.specs.calls.DecodingAll.{DecodesWhole, RefusesWhole};
 ghost use Rattle.bcder.specs.calls.DecodingAll.{AnswersToEnd, RefusesToEnd};
-ghost use Rattle.bcder.specs.calls.DecodingAll.{CallableWithin, LawfulWithin};
+ghost use Rattle.bcder.specs.calls.DecodingAll.{IsWithin};
 ghost use Rattle.bcder.specs.calls.DecodingAll.{DecodesWithin, RefusesWithin};
-ghost use Rattle.bcder.specs.calls.Views.{of_constructed, before, after, MovedOctets};
+ghost use Rattle.bcder.specs.calls.Views.{of_constructed, of_primitive, before, after, MovedOctets};
 ghost use Rattle.bcder.specs.calls.Views.{octets_before, octets_after};
 
 use super::decode::{run, run_over};
@@ -62,8 +62,10 @@ impl<'a, S: Source + Drop> Constructed<'a, S> {
     where
         I: IntoSource<Source = S>,
         F: FnOnce(&mut Constructed<'_, S>) -> Result<T, DecodeError<S::Error>>,
-        requires callable { CallableOnAll S.stream (I.gives source) mode (F.pre op) }
-        requires lawful { LawfulOnAll S.stream (I.gives source) mode (F.post op) }
+        requires callable { MayBeCalledOn (of_constructed S.stream)
+            (IsAllOf (I.gives source) mode) (F.pre op) }
+        requires lawful { IsLawfulOn (of_constructed S.stream)
+            (IsAllOf (I.gives source) mode) (F.post op) }
         ensures ok { IfOk result (λ x.
             DecodesWhole (of_constructed S.stream) (F.post op) (I.gives source) mode x) }
         ensures refused { IfErr result (λ e.
@@ -104,8 +106,10 @@ impl<'a, S: Source> Primitive<'a, S> {
     pub fn decode_all<F, T: Drop>(&mut self, mode: Mode, op: F) -> Result<T, DecodeError<S::Error>>
     where
         F: FnOnce(&mut Constructed<'_, S>) -> Result<T, DecodeError<S::Error>>,
-        requires callable { CallableWithin S.stream self mode (F.pre op) }
-        requires lawful { LawfulWithin S.stream self mode (F.post op) }
+        requires callable { MayBeCalledOn (of_constructed S.stream)
+            (IsWithin (of_primitive S.stream self.old) mode) (F.pre op) }
+        requires lawful { IsLawfulOn (of_constructed S.stream)
+            (IsWithin (of_primitive S.stream self.old) mode) (F.post op) }
         ensures moves { MovedOctets S.stream self }
         ensures ok { IfOk result (λ x. DecodesWithin (of_constructed S.stream) (F.post op)
             (octets_before S.stream self) mode x (octets_after S.stream self)) }

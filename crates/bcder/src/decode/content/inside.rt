@@ -1,7 +1,7 @@
 //! Taking the content of a value whose header was passed.
 ghost use Rattle.std.specs.Prelude.{◌≡◌, ◌||◌, true, false, None, Some, Ok, IfErr, IfOk, OnOk};
 ghost use Rattle.bcder.specs.calls.Calls.{AnswersDone, IsLawfulOn, MayBeCalledOn, RefusesContent};
-ghost use Rattle.bcder.specs.calls.Calls.{RefusesEnd, Untagged};
+ghost use Rattle.bcder.specs.calls.Calls.{RefusesEnd};
 ghost use Rattle.bcder.specs.calls.Cause.{cause_of};
 ghost use Rattle.bcder.specs.steps.StopCause.{stop_cause};
 ghost use Rattle.bcder.specs.calls.Content.{Reading, Moves, FitsOwed, EndsBefore, IsDone};
@@ -182,10 +182,10 @@ where
     requires lawful { IsLawfulOn C.view (λ i. i ≡ C.view inside.old) (F.post op) }
     ensures moves { Moves (C.view inside.old) (C.view inside.new) }
     ensures name { (C.view inside.new).name ≡ (C.view inside.old).name }
-    ensures ok { IfOk result (λ x. (t : Tag) → AnswersDone C.view (Untagged (F.post op)) t
+    ensures ok { IfOk result (λ x. (t : Tag) → AnswersDone C.view (λ _. F.post op) t
         (C.view inside.old) (Ok x) (C.view inside.new)) }
     ensures refused { IfErr result (λ e. (t : Tag)
-        → RefusesContent cause_of C.view (Untagged (F.post op)) t
+        → RefusesContent cause_of C.view (λ _. F.post op) t
         (C.view inside.old) e (C.view inside.new)) }
 {
     let value = match op(inside) {
@@ -222,7 +222,7 @@ where
     requires lawful { IsLawfulOn (of_content S.stream)
         (λ i. i ≡ of_content S.stream content) (F.post op) }
     ensures name { result.2.ghost_name ≡ content_name content.entry }
-    ensures ran { (t : Tag) → RanInside cause_of (of_content S.stream) (Untagged (F.post op))
+    ensures ran { (t : Tag) → RanInside cause_of (of_content S.stream) (λ _. F.post op)
         (of_content S.stream content.entry) t
         result.0 result.1 (limited_stream S.stream result.2.now) result.2.now.limit }
 {
@@ -250,7 +250,7 @@ impl<'a, S: Source> Constructed<'a, S> {
         requires lawful { IsLawfulOn (of_primitive S.stream) (IsBehind S.stream self header)
             (F.post op) }
         requires fits { FitsOwed (len_of header.form) self.old.source.now.limit }
-        ensures { TakesBehind (of_primitive S.stream) (Untagged (F.post op)) (Some true)
+        ensures { TakesBehind (of_primitive S.stream) (λ _. F.post op) (Some true)
             (before S.stream self) (header_of header) result (after S.stream self) }
     {
         let Form::Primitive(len) = header.form else {
@@ -292,7 +292,7 @@ impl<'a, S: Source> Constructed<'a, S> {
         requires lawful { IsLawfulOn (of_constructed S.stream) (IsBehind S.stream self header)
             (F.post op) }
         requires fits { FitsOwed (len_of header.form) self.old.source.now.limit }
-        ensures { TakesBehind (of_constructed S.stream) (Untagged (F.post op)) (Some false)
+        ensures { TakesBehind (of_constructed S.stream) (λ _. F.post op) (Some false)
             (before S.stream self) (header_of header) result (after S.stream self) }
     {
         let Form::Constructed(len) = header.form else {
@@ -334,7 +334,7 @@ impl<'a, S: Source> Constructed<'a, S> {
         requires lawful { IsLawfulOn (of_content S.stream) (IsBehind S.stream self header)
             (F.post op) }
         requires fits { FitsOwed (len_of header.form) self.old.source.now.limit }
-        ensures { TakesBehind (of_content S.stream) (Untagged (F.post op)) None
+        ensures { TakesBehind (of_content S.stream) (λ _. F.post op) None
             (before S.stream self) (header_of header) result (after S.stream self) }
     {
         let mode = self.mode;

@@ -1,10 +1,10 @@
 //! Taking primitive values.
-ghost use Rattle.std.specs.Prelude.{◌≡◌};
-ghost use Rattle.bcder.specs.calls.Calls.{Answered, Untagged};
+ghost use Rattle.std.specs.Prelude.{◌≡◌, true, Some};
+ghost use Rattle.bcder.specs.calls.Calls.{Answered, IsInside, MayBeCalledOn, IsLawfulOn};
 ghost use Rattle.bcder.specs.calls.Content.{any, tagged};
-ghost use Rattle.bcder.specs.calls.Takes.{CallableOnOctets, LawfulOnOctets, TookOctets};
-ghost use Rattle.bcder.specs.calls.Takes.{TookNextOctets};
-ghost use Rattle.bcder.specs.calls.Views.{of_primitive, octets_before, octets_after, Moved};
+ghost use Rattle.bcder.specs.calls.Takes.{Takes, TakesNext};
+ghost use Rattle.bcder.specs.calls.Views.{of_constructed, of_primitive, octets_before};
+ghost use Rattle.bcder.specs.calls.Views.{octets_after, Moved};
 
 use super::take::octets_header;
 use super::{Constructed, Primitive};
@@ -31,10 +31,13 @@ impl<'a, S: Source> Constructed<'a, S> {
     ) -> Result<Option<T>, DecodeError<S::Error>>
     where
         F: FnOnce(Tag, &mut Primitive<'_, S>) -> Result<T, DecodeError<S::Error>>,
-        requires callable { CallableOnOctets S.stream self any (F.pre op) }
-        requires lawful { LawfulOnOctets S.stream self any (F.post op) }
+        requires callable { (t : _) → MayBeCalledOn (of_primitive S.stream)
+            (IsInside any (of_constructed S.stream self.old) t) (F.pre op t) }
+        requires lawful { (t : _) → IsLawfulOn (of_primitive S.stream)
+            (IsInside any (of_constructed S.stream self.old) t) (F.post op t) }
         ensures moves { Moved S.stream self }
-        ensures took { TookNextOctets S.stream self any (F.post op) result }
+        ensures took { TakesNext (of_primitive S.stream) (F.post op) (Some true) any
+            (of_constructed S.stream self.old) result (of_constructed S.stream self.new) }
     {
         let header = match self.next_header(Wanted::Any) {
             Ok(Some(header)) => header,
@@ -62,10 +65,13 @@ impl<'a, S: Source> Constructed<'a, S> {
     pub fn take_primitive<F, T: Drop>(&mut self, op: F) -> Result<T, DecodeError<S::Error>>
     where
         F: FnOnce(Tag, &mut Primitive<'_, S>) -> Result<T, DecodeError<S::Error>>,
-        requires callable { CallableOnOctets S.stream self any (F.pre op) }
-        requires lawful { LawfulOnOctets S.stream self any (F.post op) }
+        requires callable { (t : _) → MayBeCalledOn (of_primitive S.stream)
+            (IsInside any (of_constructed S.stream self.old) t) (F.pre op t) }
+        requires lawful { (t : _) → IsLawfulOn (of_primitive S.stream)
+            (IsInside any (of_constructed S.stream self.old) t) (F.post op t) }
         ensures moves { Moved S.stream self }
-        ensures took { TookOctets S.stream self any (F.post op) result }
+        ensures took { Takes (of_primitive S.stream) (F.post op) (Some true) any
+            (of_constructed S.stream self.old) result (of_constructed S.stream self.new) }
     {
         match self.take_opt_primitive(op) {
             Ok(Some(value)) => Ok(value),
@@ -92,10 +98,13 @@ impl<'a, S: Source> Constructed<'a, S> {
     ) -> Result<Option<T>, DecodeError<S::Error>>
     where
         F: FnOnce(&mut Primitive<'_, S>) -> Result<T, DecodeError<S::Error>>,
-        requires callable { CallableOnOctets S.stream self (tagged tag) (λ _. F.pre op) }
-        requires lawful { LawfulOnOctets S.stream self (tagged tag) (Untagged (F.post op)) }
+        requires callable { (t : _) → MayBeCalledOn (of_primitive S.stream)
+            (IsInside (tagged tag) (of_constructed S.stream self.old) t) (F.pre op) }
+        requires lawful { (t : _) → IsLawfulOn (of_primitive S.stream)
+            (IsInside (tagged tag) (of_constructed S.stream self.old) t) (F.post op) }
         ensures moves { Moved S.stream self }
-        ensures took { TookNextOctets S.stream self (tagged tag) (Untagged (F.post op)) result }
+        ensures took { TakesNext (of_primitive S.stream) (λ _. F.post op) (Some true) (tagged tag)
+            (of_constructed S.stream self.old) result (of_constructed S.stream self.new) }
     {
         let len = match self.next_octets_if(tag) {
             Ok(Some(len)) => len,
@@ -119,10 +128,13 @@ impl<'a, S: Source> Constructed<'a, S> {
     ) -> Result<T, DecodeError<S::Error>>
     where
         F: FnOnce(&mut Primitive<'_, S>) -> Result<T, DecodeError<S::Error>>,
-        requires callable { CallableOnOctets S.stream self (tagged tag) (λ _. F.pre op) }
-        requires lawful { LawfulOnOctets S.stream self (tagged tag) (Untagged (F.post op)) }
+        requires callable { (t : _) → MayBeCalledOn (of_primitive S.stream)
+            (IsInside (tagged tag) (of_constructed S.stream self.old) t) (F.pre op) }
+        requires lawful { (t : _) → IsLawfulOn (of_primitive S.stream)
+            (IsInside (tagged tag) (of_constructed S.stream self.old) t) (F.post op) }
         ensures moves { Moved S.stream self }
-        ensures took { TookOctets S.stream self (tagged tag) (Untagged (F.post op)) result }
+        ensures took { Takes (of_primitive S.stream) (λ _. F.post op) (Some true) (tagged tag)
+            (of_constructed S.stream self.old) result (of_constructed S.stream self.new) }
     {
         match self.take_opt_primitive_if(tag, op) {
             Ok(Some(value)) => Ok(value),

@@ -3,7 +3,7 @@ ghost use Rattle.std.specs.Prelude.{◌≡◌, ◌≤◌, [], false, Some, IfOk,
 ghost use Rattle.std.specs.Int.{w8, w16, w32, w64, w128};
 ghost use Rattle.bcder.specs.x690.Number.{IsNumber};
 ghost use Rattle.bcder.specs.x690.Integer.{truth, IsSmallest, Leads};
-ghost use Rattle.bcder.specs.calls.Readers.{AreNeverRefused, HasAll, RefusesReading, ReadBy};
+ghost use Rattle.bcder.specs.calls.Readers.{AreNeverRefused, RefusesReading, ReadBy};
 ghost use Rattle.bcder.specs.calls.Readers.{ReadOctets, FindNoMemory};
 ghost use Rattle.bcder.specs.calls.Readers.{IsSigned, IsUnsigned, IsTruth, IsNull, Told, Untold};
 ghost use Rattle.bcder.specs.calls.Readers.{LookedAt, ToldOf};
@@ -12,6 +12,7 @@ ghost use Rattle.bcder.specs.calls.Cause.{cause_of, of_content};
 ghost use Rattle.bcder.specs.calls.Stream.{borrowed, limited};
 ghost use Rattle.bcder.specs.laws.Limits.{borrowed_sound, limited_sound};
 ghost use Rattle.bcder.specs.calls.Views.{of_primitive, octets_before, octets_after, MovedOctets};
+ghost use Rattle.bcder.specs.steps.Remaining.{HasAll};
 
 mod bits;
 mod characters;

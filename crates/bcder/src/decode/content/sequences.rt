@@ -1,11 +1,10 @@
 //! Taking constructed values.
-ghost use Rattle.std.specs.Prelude.{◌≡◌};
-ghost use Rattle.bcder.specs.calls.Calls.{Answered, Untagged};
+ghost use Rattle.std.specs.Prelude.{◌≡◌, false, Some};
+ghost use Rattle.bcder.specs.calls.Calls.{Answered, IsInside, MayBeCalledOn, IsLawfulOn};
 ghost use Rattle.bcder.specs.calls.Content.{any, tagged};
 ghost use Rattle.bcder.specs.x690.Identifier.{sequence_tag, set_tag};
-ghost use Rattle.bcder.specs.calls.Takes.{CallableOnValues, LawfulOnValues, TookValues};
-ghost use Rattle.bcder.specs.calls.Takes.{TookNextValues};
-ghost use Rattle.bcder.specs.calls.Views.{of_constructed, before, after, Moved};
+ghost use Rattle.bcder.specs.calls.Takes.{Takes, TakesNext};
+ghost use Rattle.bcder.specs.calls.Views.{of_constructed, Moved};
 
 use super::Constructed;
 use crate::decode::error::DecodeError;
@@ -31,10 +30,13 @@ impl<'a, S: Source> Constructed<'a, S> {
     ) -> Result<Option<T>, DecodeError<S::Error>>
     where
         F: FnOnce(Tag, &mut Constructed<'_, S>) -> Result<T, DecodeError<S::Error>>,
-        requires callable { CallableOnValues S.stream self any (F.pre op) }
-        requires lawful { LawfulOnValues S.stream self any (F.post op) }
+        requires callable { (t : _) → MayBeCalledOn (of_constructed S.stream)
+            (IsInside any (of_constructed S.stream self.old) t) (F.pre op t) }
+        requires lawful { (t : _) → IsLawfulOn (of_constructed S.stream)
+            (IsInside any (of_constructed S.stream self.old) t) (F.post op t) }
         ensures moves { Moved S.stream self }
-        ensures took { TookNextValues S.stream self any (F.post op) result }
+        ensures took { TakesNext (of_constructed S.stream) (F.post op) (Some false) any
+            (of_constructed S.stream self.old) result (of_constructed S.stream self.new) }
     {
         let header = match self.next_header(Wanted::Any) {
             Ok(Some(header)) => header,
@@ -47,7 +49,8 @@ impl<'a, S: Source> Constructed<'a, S> {
             |values|
                 requires { (p : _) → p.now ≡ values.now → F.pre op tag p }
                 ensures { Answered (of_constructed S.stream) (F.post op tag)
-                    (before S.stream values) result (after S.stream values) }
+                    (of_constructed S.stream values.old) result
+                    (of_constructed S.stream values.new) }
             { op(tag, values) },
         )
     }
@@ -62,10 +65,13 @@ impl<'a, S: Source> Constructed<'a, S> {
     pub fn take_constructed<F, T: Drop>(&mut self, op: F) -> Result<T, DecodeError<S::Error>>
     where
         F: FnOnce(Tag, &mut Constructed<'_, S>) -> Result<T, DecodeError<S::Error>>,
-        requires callable { CallableOnValues S.stream self any (F.pre op) }
-        requires lawful { LawfulOnValues S.stream self any (F.post op) }
+        requires callable { (t : _) → MayBeCalledOn (of_constructed S.stream)
+            (IsInside any (of_constructed S.stream self.old) t) (F.pre op t) }
+        requires lawful { (t : _) → IsLawfulOn (of_constructed S.stream)
+            (IsInside any (of_constructed S.stream self.old) t) (F.post op t) }
         ensures moves { Moved S.stream self }
-        ensures took { TookValues S.stream self any (F.post op) result }
+        ensures took { Takes (of_constructed S.stream) (F.post op) (Some false) any
+            (of_constructed S.stream self.old) result (of_constructed S.stream self.new) }
     {
         match self.take_opt_constructed(op) {
             Ok(Some(value)) => Ok(value),
@@ -92,10 +98,14 @@ impl<'a, S: Source> Constructed<'a, S> {
     ) -> Result<Option<T>, DecodeError<S::Error>>
     where
         F: FnOnce(&mut Constructed<'_, S>) -> Result<T, DecodeError<S::Error>>,
-        requires callable { CallableOnValues S.stream self (tagged tag) (λ _. F.pre op) }
-        requires lawful { LawfulOnValues S.stream self (tagged tag) (Untagged (F.post op)) }
+        requires callable { (t : _) → MayBeCalledOn (of_constructed S.stream)
+            (IsInside (tagged tag) (of_constructed S.stream self.old) t) (F.pre op) }
+        requires lawful { (t : _) → IsLawfulOn (of_constructed S.stream)
+            (IsInside (tagged tag) (of_constructed S.stream self.old) t) (F.post op) }
         ensures moves { Moved S.stream self }
-        ensures took { TookNextValues S.stream self (tagged tag) (Untagged (F.post op)) result }
+        ensures took { TakesNext (of_constructed S.stream) (λ _. F.post op) (Some false)
+            (tagged tag) (of_constructed S.stream self.old) result
+            (of_constructed S.stream self.new) }
     {
         let header = match self.next_header(Wanted::Tagged(tag)) {
             Ok(Some(header)) => header,
@@ -119,10 +129,14 @@ impl<'a, S: Source> Constructed<'a, S> {
     ) -> Result<T, DecodeError<S::Error>>
     where
         F: FnOnce(&mut Constructed<'_, S>) -> Result<T, DecodeError<S::Error>>,
-        requires callable { CallableOnValues S.stream self (tagged tag) (λ _. F.pre op) }
-        requires lawful { LawfulOnValues S.stream self (tagged tag) (Untagged (F.post op)) }
+        requires callable { (t : _) → MayBeCalledOn (of_constructed S.stream)
+            (IsInside (tagged tag) (of_constructed S.stream self.old) t) (F.pre op) }
+        requires lawful { (t : _) → IsLawfulOn (of_constructed S.stream)
+            (IsInside (tagged tag) (of_constructed S.stream self.old) t) (F.post op) }
         ensures moves { Moved S.stream self }
-        ensures took { TookValues S.stream self (tagged tag) (Untagged (F.post op)) result }
+        ensures took { Takes (of_constructed S.stream) (λ _. F.post op) (Some false)
+            (tagged tag) (of_constructed S.stream self.old) result
+            (of_constructed S.stream self.new) }
     {
         match self.take_opt_constructed_if(tag, op) {
             Ok(Some(value)) => Ok(value),
@@ -142,12 +156,14 @@ impl<'a, S: Source> Constructed<'a, S> {
     pub fn take_sequence<F, T: Drop>(&mut self, op: F) -> Result<T, DecodeError<S::Error>>
     where
         F: FnOnce(&mut Constructed<'_, S>) -> Result<T, DecodeError<S::Error>>,
-        requires callable { CallableOnValues S.stream self (tagged sequence_tag) (λ _. F.pre op) }
-        requires lawful { LawfulOnValues S.stream self (tagged sequence_tag) (Untagged
-            (F.post op)) }
+        requires callable { (t : _) → MayBeCalledOn (of_constructed S.stream)
+            (IsInside (tagged sequence_tag) (of_constructed S.stream self.old) t) (F.pre op) }
+        requires lawful { (t : _) → IsLawfulOn (of_constructed S.stream)
+            (IsInside (tagged sequence_tag) (of_constructed S.stream self.old) t) (F.post op) }
         ensures moves { Moved S.stream self }
-        ensures took { TookValues S.stream self (tagged sequence_tag) (Untagged
-            (F.post op)) result }
+        ensures took { Takes (of_constructed S.stream) (λ _. F.post op) (Some false)
+            (tagged sequence_tag) (of_constructed S.stream self.old) result
+            (of_constructed S.stream self.new) }
     {
         match self.take_opt_constructed_if(Tag::SEQUENCE, op) {
             Ok(Some(value)) => Ok(value),
@@ -170,12 +186,14 @@ impl<'a, S: Source> Constructed<'a, S> {
     ) -> Result<Option<T>, DecodeError<S::Error>>
     where
         F: FnOnce(&mut Constructed<'_, S>) -> Result<T, DecodeError<S::Error>>,
-        requires callable { CallableOnValues S.stream self (tagged sequence_tag) (λ _. F.pre op) }
-        requires lawful { LawfulOnValues S.stream self (tagged sequence_tag) (Untagged
-            (F.post op)) }
+        requires callable { (t : _) → MayBeCalledOn (of_constructed S.stream)
+            (IsInside (tagged sequence_tag) (of_constructed S.stream self.old) t) (F.pre op) }
+        requires lawful { (t : _) → IsLawfulOn (of_constructed S.stream)
+            (IsInside (tagged sequence_tag) (of_constructed S.stream self.old) t) (F.post op) }
         ensures moves { Moved S.stream self }
-        ensures took { TookNextValues S.stream self (tagged sequence_tag) (Untagged
-            (F.post op)) result }
+        ensures took { TakesNext (of_constructed S.stream) (λ _. F.post op) (Some false)
+            (tagged sequence_tag) (of_constructed S.stream self.old) result
+            (of_constructed S.stream self.new) }
     {
         self.take_opt_constructed_if(Tag::SEQUENCE, op)
     }
@@ -191,10 +209,14 @@ impl<'a, S: Source> Constructed<'a, S> {
     pub fn take_set<F, T: Drop>(&mut self, op: F) -> Result<T, DecodeError<S::Error>>
     where
         F: FnOnce(&mut Constructed<'_, S>) -> Result<T, DecodeError<S::Error>>,
-        requires callable { CallableOnValues S.stream self (tagged set_tag) (λ _. F.pre op) }
-        requires lawful { LawfulOnValues S.stream self (tagged set_tag) (Untagged (F.post op)) }
+        requires callable { (t : _) → MayBeCalledOn (of_constructed S.stream)
+            (IsInside (tagged set_tag) (of_constructed S.stream self.old) t) (F.pre op) }
+        requires lawful { (t : _) → IsLawfulOn (of_constructed S.stream)
+            (IsInside (tagged set_tag) (of_constructed S.stream self.old) t) (F.post op) }
         ensures moves { Moved S.stream self }
-        ensures took { TookValues S.stream self (tagged set_tag) (Untagged (F.post op)) result }
+        ensures took { Takes (of_constructed S.stream) (λ _. F.post op) (Some false)
+            (tagged set_tag) (of_constructed S.stream self.old) result
+            (of_constructed S.stream self.new) }
     {
         match self.take_opt_constructed_if(Tag::SET, op) {
             Ok(Some(value)) => Ok(value),
@@ -214,10 +236,14 @@ impl<'a, S: Source> Constructed<'a, S> {
     pub fn take_opt_set<F, T: Drop>(&mut self, op: F) -> Result<Option<T>, DecodeError<S::Error>>
     where
         F: FnOnce(&mut Constructed<'_, S>) -> Result<T, DecodeError<S::Error>>,
-        requires callable { CallableOnValues S.stream self (tagged set_tag) (λ _. F.pre op) }
-        requires lawful { LawfulOnValues S.stream self (tagged set_tag) (Untagged (F.post op)) }
+        requires callable { (t : _) → MayBeCalledOn (of_constructed S.stream)
+            (IsInside (tagged set_tag) (of_constructed S.stream self.old) t) (F.pre op) }
+        requires lawful { (t : _) → IsLawfulOn (of_constructed S.stream)
+            (IsInside (tagged set_tag) (of_constructed S.stream self.old) t) (F.post op) }
         ensures moves { Moved S.stream self }
-        ensures took { TookNextValues S.stream self (tagged set_tag) (Untagged (F.post op)) result }
+        ensures took { TakesNext (of_constructed S.stream) (λ _. F.post op) (Some false)
+            (tagged set_tag) (of_constructed S.stream self.old) result
+            (of_constructed S.stream self.new) }
     {
         self.take_opt_constructed_if(Tag::SET, op)
     }

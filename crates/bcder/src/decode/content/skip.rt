@@ -4,10 +4,12 @@ ghost use Rattle.std.specs.Prelude.{IfErr, IfNone, IfOk, OnErr};
 ghost use Rattle.bcder.specs.calls.Cause.{cause_of, of_content, of_memory, of_source};
 ghost use Rattle.bcder.specs.steps.StopCause.{stop_cause};
 ghost use Rattle.bcder.specs.calls.Cause.{IsOfContent, IsRefusal};
-ghost use Rattle.bcder.specs.calls.Content.{FitsOwed, Moves, Resembles};
+ghost use Rattle.bcder.specs.calls.Content.{any, FitsOwed, Moves, Resembles};
 ghost use Rattle.bcder.specs.steps.Inside.{kind_behind, limit_inside};
 ghost use Rattle.bcder.specs.steps.Peek.{len_of};
-ghost use Rattle.bcder.specs.calls.Skipping.{SkippedAll, SkippedNext, SkippedOne, SkippedValue};
+ghost use Rattle.bcder.specs.calls.Skipping.{SkippedAll, SkippedOne, SkippedValueBy, SkipsValue};
+ghost use Rattle.bcder.specs.calls.Skipping.{RefusesSkip};
+ghost use Rattle.bcder.specs.calls.Takes.{NextBy};
 ghost use Rattle.bcder.specs.steps.Stacked.{Counts, Gone, IsCounted};
 ghost use Rattle.bcder.specs.steps.Stacked.{LeavesInnermost, RanOverSource};
 ghost use Rattle.bcder.specs.steps.Stacked.{TopIs};
@@ -15,7 +17,7 @@ ghost use Rattle.bcder.specs.steps.Stacked.{entries, entry_of, framed};
 ghost use Rattle.bcder.specs.steps.Stacked.{interrupt_cause, limit_around};
 ghost use Rattle.bcder.specs.steps.Stacked.{limit_in};
 ghost use Rattle.bcder.specs.steps.Stacked.{source_of, unwound};
-ghost use Rattle.bcder.specs.calls.Views.{after, before, Moved};
+ghost use Rattle.bcder.specs.calls.Views.{of_constructed, after, before, Moved};
 ghost use Rattle.bcder.specs.calls.Walking.{Between};
 ghost use Rattle.bcder.specs.steps.WalkSteps.{Fault, NoFault};
 
@@ -307,7 +309,10 @@ impl<'a, S: Source> Constructed<'a, S> {
         F: FnMut(Tag, bool, usize) -> Result<(), ContentError>,
         requires { F.IsAlwaysCallable op.old }
         ensures moves { Moves (before S.stream self) (after S.stream self) }
-        ensures skipped { SkippedNext S.stream F.step self op result }
+        ensures skipped { NextBy any (λ i _ j. SkipsValue F.step i op.old op.new j)
+            (λ i e j. RefusesSkip cause_of F.step i op.old e op.new j)
+            (of_constructed S.stream self.old) result (of_constructed S.stream self.new) }
+        ensures uncalled { IfOk result (λ o. IfNone o (op.new ≡ op.old)) }
     {
         match self.next_header(Wanted::Any) {
             Ok(Some(header)) => {
@@ -372,7 +377,10 @@ impl<'a, S: Source> Constructed<'a, S> {
         F: FnMut(Tag, bool, usize) -> Result<(), ContentError>,
         requires { F.IsAlwaysCallable op.old }
         ensures moves { Moved S.stream self }
-        ensures skipped { SkippedNext S.stream F.step self op result }
+        ensures skipped { NextBy any (λ i _ j. SkipsValue F.step i op.old op.new j)
+            (λ i e j. RefusesSkip cause_of F.step i op.old e op.new j)
+            (of_constructed S.stream self.old) result (of_constructed S.stream self.new) }
+        ensures uncalled { IfOk result (λ o. IfNone o (op.new ≡ op.old)) }
     {
         self.skip_next(alloc, op)
     }
@@ -391,7 +399,8 @@ impl<'a, S: Source> Constructed<'a, S> {
         F: FnMut(Tag, bool, usize) -> Result<(), ContentError>,
         requires { F.IsAlwaysCallable op.old }
         ensures moves { Moved S.stream self }
-        ensures skipped { SkippedValue S.stream F.step self op result }
+        ensures skipped { SkippedValueBy F.step (of_constructed S.stream self.old) op.old
+            result op.new (of_constructed S.stream self.new) }
     {
         match self.skip_opt(alloc, op) {
             Ok(Some(())) => Ok(()),

@@ -5,14 +5,13 @@ ghost use Rattle.bcder.specs.calls.Calls.{popped};
 ghost use Rattle.bcder.specs.calls.Changed.{SameFaults, MoreFaults, SameRest, SameKept};
 ghost use Rattle.bcder.specs.calls.Cause.{cause_of, IsRefusal};
 ghost use Rattle.bcder.specs.steps.StopCause.{stop_cause};
-ghost use Rattle.bcder.specs.calls.Cause.{NamesTag};
-ghost use Rattle.bcder.specs.calls.Content.{any, Moves, Enters, TakesMarker, NoFront};
-ghost use Rattle.bcder.specs.calls.Content.{NamesViolation};
+ghost use Rattle.bcder.specs.calls.Content.{any, tagged, Moves, Enters, TakesMarker, NoFront};
 ghost use Rattle.bcder.specs.steps.Entering.{EntersNext, EntersOctets, FindsNone, RefusesNext};
-ghost use Rattle.bcder.specs.steps.Entering.{GoesOn, MeetsNoFault};
+ghost use Rattle.bcder.specs.steps.Entering.{GoesOn, MeetsNoFault, NamesViolation};
 ghost use Rattle.bcder.specs.steps.Peek.{header_of, octets_header, asked};
 ghost use Rattle.bcder.specs.steps.Peek.{Fronts, FrontsEnd};
 ghost use Rattle.bcder.specs.declared.mode.Mode.{Mode as ModeValue};
+ghost use Rattle.bcder.specs.calls.Takes.{TellsNone};
 ghost use Rattle.bcder.specs.calls.Views.{before, after, limited_stream};
 
 use super::{Constructed, Kind, Primitive, State};
@@ -120,7 +119,7 @@ impl<'a, S: Source> Constructed<'a, S> {
     /// Returns an error that refuses what doesn't have this tag.
     #[cold]
     pub(crate) fn expected_tag_error(&self, tag: Tag) -> DecodeError<S::Error>
-        ensures { NamesTag tag result }
+        ensures { TellsNone (tagged tag) result }
     {
         self.source.content_err(ContentError::ExpectedTag(tag))
     }

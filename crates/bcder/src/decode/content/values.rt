@@ -1,10 +1,10 @@
 //! Taking values of either form.
-ghost use Rattle.std.specs.Prelude.{◌≡◌};
-ghost use Rattle.bcder.specs.calls.Calls.{Answered, Untagged};
+ghost use Rattle.std.specs.Prelude.{◌≡◌, None};
+ghost use Rattle.bcder.specs.calls.Calls.{Answered, IsInside, MayBeCalledOn, IsLawfulOn};
 ghost use Rattle.bcder.specs.calls.Content.{any, tagged};
-ghost use Rattle.bcder.specs.calls.Takes.{CallableOnContent, LawfulOnContent, TookContent};
-ghost use Rattle.bcder.specs.calls.Takes.{TookNextContent};
-ghost use Rattle.bcder.specs.calls.Views.{of_content, content_before, content_after, Moved};
+ghost use Rattle.bcder.specs.calls.Takes.{Takes, TakesNext};
+ghost use Rattle.bcder.specs.calls.Views.{of_constructed, of_content, content_before};
+ghost use Rattle.bcder.specs.calls.Views.{content_after, Moved};
 
 use super::{Constructed, Content};
 use crate::decode::error::DecodeError;
@@ -43,10 +43,13 @@ impl<'a, S: Source> Constructed<'a, S> {
     pub fn take_opt_value<F, T: Drop>(&mut self, op: F) -> Result<Option<T>, DecodeError<S::Error>>
     where
         F: FnOnce(Tag, &mut Content<'_, S>) -> Result<T, DecodeError<S::Error>>,
-        requires callable { CallableOnContent S.stream self any (F.pre op) }
-        requires lawful { LawfulOnContent S.stream self any (F.post op) }
+        requires callable { (t : _) → MayBeCalledOn (of_content S.stream)
+            (IsInside any (of_constructed S.stream self.old) t) (F.pre op t) }
+        requires lawful { (t : _) → IsLawfulOn (of_content S.stream)
+            (IsInside any (of_constructed S.stream self.old) t) (F.post op t) }
         ensures moves { Moved S.stream self }
-        ensures took { TookNextContent S.stream self any (F.post op) result }
+        ensures took { TakesNext (of_content S.stream) (F.post op) None any
+            (of_constructed S.stream self.old) result (of_constructed S.stream self.new) }
     {
         let header = match self.next_header(Wanted::Any) {
             Ok(Some(header)) => header,
@@ -76,10 +79,13 @@ impl<'a, S: Source> Constructed<'a, S> {
     pub fn take_value<F, T: Drop>(&mut self, op: F) -> Result<T, DecodeError<S::Error>>
     where
         F: FnOnce(Tag, &mut Content<'_, S>) -> Result<T, DecodeError<S::Error>>,
-        requires callable { CallableOnContent S.stream self any (F.pre op) }
-        requires lawful { LawfulOnContent S.stream self any (F.post op) }
+        requires callable { (t : _) → MayBeCalledOn (of_content S.stream)
+            (IsInside any (of_constructed S.stream self.old) t) (F.pre op t) }
+        requires lawful { (t : _) → IsLawfulOn (of_content S.stream)
+            (IsInside any (of_constructed S.stream self.old) t) (F.post op t) }
         ensures moves { Moved S.stream self }
-        ensures took { TookContent S.stream self any (F.post op) result }
+        ensures took { Takes (of_content S.stream) (F.post op) None any
+            (of_constructed S.stream self.old) result (of_constructed S.stream self.new) }
     {
         match self.take_opt_value(op) {
             Ok(Some(value)) => Ok(value),
@@ -117,10 +123,13 @@ impl<'a, S: Source> Constructed<'a, S> {
     ) -> Result<Option<T>, DecodeError<S::Error>>
     where
         F: FnOnce(&mut Content<'_, S>) -> Result<T, DecodeError<S::Error>>,
-        requires callable { CallableOnContent S.stream self (tagged tag) (λ _. F.pre op) }
-        requires lawful { LawfulOnContent S.stream self (tagged tag) (Untagged (F.post op)) }
+        requires callable { (t : _) → MayBeCalledOn (of_content S.stream)
+            (IsInside (tagged tag) (of_constructed S.stream self.old) t) (F.pre op) }
+        requires lawful { (t : _) → IsLawfulOn (of_content S.stream)
+            (IsInside (tagged tag) (of_constructed S.stream self.old) t) (F.post op) }
         ensures moves { Moved S.stream self }
-        ensures took { TookNextContent S.stream self (tagged tag) (Untagged (F.post op)) result }
+        ensures took { TakesNext (of_content S.stream) (λ _. F.post op) None (tagged tag)
+            (of_constructed S.stream self.old) result (of_constructed S.stream self.new) }
     {
         let header = match self.next_header(Wanted::Tagged(tag)) {
             Ok(Some(header)) => header,
@@ -142,10 +151,13 @@ impl<'a, S: Source> Constructed<'a, S> {
     pub fn take_value_if<F, T: Drop>(&mut self, tag: Tag, op: F) -> Result<T, DecodeError<S::Error>>
     where
         F: FnOnce(&mut Content<'_, S>) -> Result<T, DecodeError<S::Error>>,
-        requires callable { CallableOnContent S.stream self (tagged tag) (λ _. F.pre op) }
-        requires lawful { LawfulOnContent S.stream self (tagged tag) (Untagged (F.post op)) }
+        requires callable { (t : _) → MayBeCalledOn (of_content S.stream)
+            (IsInside (tagged tag) (of_constructed S.stream self.old) t) (F.pre op) }
+        requires lawful { (t : _) → IsLawfulOn (of_content S.stream)
+            (IsInside (tagged tag) (of_constructed S.stream self.old) t) (F.post op) }
         ensures moves { Moved S.stream self }
-        ensures took { TookContent S.stream self (tagged tag) (Untagged (F.post op)) result }
+        ensures took { Takes (of_content S.stream) (λ _. F.post op) None (tagged tag)
+            (of_constructed S.stream self.old) result (of_constructed S.stream self.new) }
     {
         match self.take_opt_value_if(tag, op) {
             Ok(Some(value)) => Ok(value),

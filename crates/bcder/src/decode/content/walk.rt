@@ -4,14 +4,17 @@ ghost use Rattle.bcder.specs.steps.StopCause.{stop_cause};
 ghost use Rattle.bcder.specs.calls.Stream.{Grew};
 ghost use Rattle.bcder.specs.x690.Identifier.{Tag as TagValue};
 ghost use Rattle.bcder.specs.steps.Peek.{len_of};
-ghost use Rattle.bcder.specs.calls.Content.{Moves, FitsOwed, values, Resembles};
+ghost use Rattle.bcder.specs.calls.Content.{any, Moves, FitsOwed, values, Resembles};
 ghost use Rattle.bcder.specs.calls.Calls.{RanOver};
-ghost use Rattle.bcder.specs.calls.Walking.{Between, PassedNext};
+ghost use Rattle.bcder.specs.calls.Cause.{cause_of};
+ghost use Rattle.bcder.specs.calls.Refusals.{Refuses};
+ghost use Rattle.bcder.specs.calls.Takes.{NextBy};
+ghost use Rattle.bcder.specs.calls.Walking.{Between, HasNoNext, PassesValue};
 ghost use Rattle.bcder.specs.steps.WalkSteps.{NoFault, Fault, PassedStep};
 ghost use Rattle.bcder.specs.steps.WalkSteps.{PassedOver, PassedAtOnce, WalkedOver};
 ghost use Rattle.bcder.specs.x690.Grammar.{BeginsWhole};
 ghost use Rattle.bcder.specs.steps.WalkSteps.{itself, walked};
-ghost use Rattle.bcder.specs.calls.Views.{Moved, of_constructed, limited_stream};
+ghost use Rattle.bcder.specs.calls.Views.{Moved, of_constructed, limited_stream, before, after};
 
 use super::take::pop;
 use super::{Constructed, Kind, State};
@@ -38,7 +41,8 @@ use crate::plain::{short_size, size_within};
 #[inline(always)]
 pub fn walk<S: Source>(cons: &mut Constructed<'_, S>) -> Result<Option<()>, DecodeError<S::Error>>
     ensures moves { Moved S.stream cons }
-    ensures passed { PassedNext S.stream cons result }
+    ensures passed { NextBy any (λ i _ j. PassesValue i j) (Refuses cause_of any HasNoNext ⊥)
+        (of_constructed S.stream cons.old) result (of_constructed S.stream cons.new) }
 {
     match cons.pass_at_hand(Lookahead::Short) {
         Ok(true) => Ok(Some(())),

@@ -2,7 +2,7 @@
 ghost use Rattle.std.specs.Prelude.{◌≡◌, ℕ, ◌+◌, ⊤, ◌⊎◌, List, [], IfOk};
 ghost use Rattle.bcder.specs.declared.mode.Mode.{Mode};
 ghost use Rattle.bcder.specs.calls.Meaning.{Meaning, IsLawful};
-ghost use Rattle.bcder.specs.calls.Encoders.{HasEncoding, SizeOfValues, WritesValues, WritesParts};
+ghost use Rattle.bcder.specs.calls.Encoders.{HasEncoding, SizeOfValues, WritesParts};
 ghost use Rattle.bcder.specs.calls.Encoders.{TellsSum, WritesKnown, into_result};
 ghost use Rattle.bcder.specs.calls.Joined.{Then, NoValues, Joined, IsSum};
 ghost use Rattle.bcder.specs.calls.Noted.{ReadsNone, ReadsThen, Notes, MayRead, HasRead};

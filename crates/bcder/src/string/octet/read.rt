@@ -2,9 +2,10 @@
 ghost use Rattle.std.specs.Prelude.{◌≡◌, ◌≤◌, ◌↔◌, IsTrue};
 ghost use Rattle.bcder.specs.x690.OctetString.{octet_string_tag};
 ghost use Rattle.bcder.specs.calls.StringOctets.{whole, MeansString};
-ghost use Rattle.bcder.specs.calls.Valued.{ReadsAny, ReadTree, TookNextTree, TookOneTree};
-ghost use Rattle.bcder.specs.calls.Views.{before, after, octets_before, octets_after};
-ghost use Rattle.bcder.specs.calls.Views.{Moved, MovedOctets, MovedContent};
+ghost use Rattle.bcder.specs.calls.Valued.{ReadsAny, TakesNextTree, TakesOneTree};
+ghost use Rattle.bcder.specs.calls.Views.{of_constructed, octets_before, octets_after};
+ghost use Rattle.bcder.specs.calls.Views.{Moved, MovedOctets, MovedContent, content_before};
+ghost use Rattle.bcder.specs.calls.Views.{content_after};
 
 use super::OctetString;
 use super::segments::{FULL, table_of};
@@ -54,7 +55,7 @@ pub(crate) fn from_constructed<S: Source>(
 ) -> Result<OctetString, DecodeError<S::Error>>
     ensures moves { Moved S.stream values }
     ensures read { ReadsAny MeansString
-        (before S.stream values) result (after S.stream values) }
+        (of_constructed S.stream values.old) result (of_constructed S.stream values.new) }
 {
     let mode = values.mode();
     if mode == Mode::Der {
@@ -85,7 +86,8 @@ impl OctetString {
         cons: &mut Constructed<'_, S>,
     ) -> Result<Self, DecodeError<S::Error>>
         ensures moves { Moved S.stream cons }
-        ensures took { TookOneTree S.stream cons octet_string_tag MeansString result }
+        ensures took { TakesOneTree octet_string_tag (MeansString cons.old.mode)
+            (of_constructed S.stream cons.old) result (of_constructed S.stream cons.new) }
     {
         match OctetString::take_opt_if(alloc, cons, Tag::OCTET_STRING) {
             Ok(Some(string)) => Ok(string),
@@ -121,7 +123,8 @@ impl OctetString {
         cons: &mut Constructed<'_, S>,
     ) -> Result<Option<Self>, DecodeError<S::Error>>
         ensures moves { Moved S.stream cons }
-        ensures took { TookNextTree S.stream cons octet_string_tag MeansString result }
+        ensures took { TakesNextTree octet_string_tag (MeansString cons.old.mode)
+            (of_constructed S.stream cons.old) result (of_constructed S.stream cons.new) }
     {
         OctetString::take_opt_if(alloc, cons, Tag::OCTET_STRING)
     }
@@ -150,7 +153,8 @@ impl OctetString {
         tag: Tag,
     ) -> Result<Option<Self>, DecodeError<S::Error>>
         ensures moves { Moved S.stream cons }
-        ensures took { TookNextTree S.stream cons tag MeansString result }
+        ensures took { TakesNextTree tag (MeansString cons.old.mode)
+            (of_constructed S.stream cons.old) result (of_constructed S.stream cons.new) }
     {
         match cons.next_header(Wanted::Tagged(tag)) {
             // Each form has its own closure, so that a string in one piece is made where it is
@@ -185,7 +189,8 @@ impl OctetString {
         content: &mut Content<'_, S>,
     ) -> Result<Self, DecodeError<S::Error>>
         ensures moves { MovedContent S.stream content }
-        ensures read { ReadTree S.stream content MeansString result }
+        ensures read { ReadsAny MeansString (content_before S.stream content) result
+            (content_after S.stream content) }
     {
         match content {
             Content::Primitive(octets) => match take_piece(alloc, octets) {

@@ -4,7 +4,7 @@ ghost use Rattle.std.specs.List.{concat};
 ghost use Rattle.bcder.specs.x690.Identifier.{AreOctets};
 ghost use Rattle.bcder.specs.x690.Octets.{definite, enclosed};
 ghost use Rattle.bcder.specs.declared.mode.Mode.TheVariants.{Cer};
-ghost use Rattle.bcder.specs.calls.Encoders.{HasEncoding, SizeOfValues, WritesValues, WritesParts};
+ghost use Rattle.bcder.specs.calls.Encoders.{HasEncoding, SizeOfValues, WritesParts};
 ghost use Rattle.bcder.specs.calls.Encoders.{WroteOctets, into_result};
 ghost use Rattle.bcder.specs.steps.Buffer.{buffered};
 ghost use Rattle.bcder.specs.calls.Joined.{IsSum};

@@ -4,9 +4,10 @@ ghost use Rattle.bcder.specs.calls.Cause.{IsRefusal};
 ghost use Rattle.bcder.specs.calls.RestrictedString.{MeansRestricted, MeansPiece};
 ghost use Rattle.bcder.specs.calls.StringOctets.{octets_of};
 ghost use Rattle.bcder.specs.x690.CharSet.{IsOfSet};
-ghost use Rattle.bcder.specs.calls.Valued.{ReadsAny, ReadTree, TookNextTree, TookOneTree};
-ghost use Rattle.bcder.specs.calls.Views.{before, after, octets_before, octets_after};
-ghost use Rattle.bcder.specs.calls.Views.{Moved, MovedOctets, MovedContent};
+ghost use Rattle.bcder.specs.calls.Valued.{ReadsAny, TakesNextTree, TakesOneTree};
+ghost use Rattle.bcder.specs.calls.Views.{of_constructed, octets_before, octets_after};
+ghost use Rattle.bcder.specs.calls.Views.{Moved, MovedOctets, MovedContent, content_before};
+ghost use Rattle.bcder.specs.calls.Views.{content_after};
 
 use super::{CharSet, RestrictedString};
 use crate::decode::header::Wanted;
@@ -60,7 +61,7 @@ impl<L: CharSet> RestrictedString<L> {
     ) -> Result<Self, DecodeError<S::Error>>
         ensures moves { Moved S.stream values }
         ensures read { ReadsAny (MeansRestricted L.step)
-            (before S.stream values) result (after S.stream values) }
+            (of_constructed S.stream values.old) result (of_constructed S.stream values.new) }
     {
         let octets = match from_constructed(alloc, values) {
             Ok(octets) => octets,
@@ -81,7 +82,8 @@ impl<L: CharSet> RestrictedString<L> {
         cons: &mut Constructed<'_, S>,
     ) -> Result<Self, DecodeError<S::Error>>
         ensures moves { Moved S.stream cons }
-        ensures took { TookOneTree S.stream cons L.TAG (MeansRestricted L.step) result }
+        ensures took { TakesOneTree L.TAG (MeansRestricted L.step cons.old.mode)
+            (of_constructed S.stream cons.old) result (of_constructed S.stream cons.new) }
     {
         match RestrictedString::<L>::take_opt_from(alloc, cons) {
             Ok(Some(string)) => Ok(string),
@@ -107,7 +109,8 @@ impl<L: CharSet> RestrictedString<L> {
         cons: &mut Constructed<'_, S>,
     ) -> Result<Option<Self>, DecodeError<S::Error>>
         ensures moves { Moved S.stream cons }
-        ensures took { TookNextTree S.stream cons L.TAG (MeansRestricted L.step) result }
+        ensures took { TakesNextTree L.TAG (MeansRestricted L.step cons.old.mode)
+            (of_constructed S.stream cons.old) result (of_constructed S.stream cons.new) }
     {
         match cons.next_header(Wanted::Tagged(L::TAG)) {
             Ok(Some(header)) => {
@@ -143,7 +146,8 @@ impl<L: CharSet> RestrictedString<L> {
         content: &mut Content<'_, S>,
     ) -> Result<Self, DecodeError<S::Error>>
         ensures moves { MovedContent S.stream content }
-        ensures read { ReadTree S.stream content (MeansRestricted L.step) result }
+        ensures read { ReadsAny (MeansRestricted L.step) (content_before S.stream content) result
+            (content_after S.stream content) }
     {
         match content {
             Content::Primitive(octets) => match take_accepted::<L, S>(alloc, octets) {

@@ -10,7 +10,7 @@ returns-clause-listed g c = lists_next _ (λ p. string_bytes p.0.now) (λ p. p.1
       same_text = λ p q h r s. search rules;
       same_wants =
           λ p q h r s. search rules;
-    }) _ _ _ _ c.skip_opt-passed.result _ (λ e. ap string_bytes (c.text-1.given.1 (sym e))) c.skip_opt-passed.ensures.skipped.next.value
+    }) _ _ _ _ c.skip_opt-passed.result _ (λ e. ap string_bytes (c.text-1.given.1 (sym e))) c.skip_opt-passed.ensures.skipped.value
 
 pub returns-clause-refused : goal.returns-clause-refused
 returns-clause-refused g c = refuses_next _ (λ p. string_bytes p.0.now) (λ p. p.1.now) (λ p. p.0.ghost_name) (λ p. p.1.ghost_name) (record {
@@ -20,4 +20,4 @@ returns-clause-refused g c = refuses_next _ (λ p. string_bytes p.0.now) (λ p. 
   same_text = λ p q h r s. search rules;
   same_wants = λ p q h r s. search rules;
 }) _ _ _ _
-    c.skip_opt-passed.result (λ e. sym (c.wants_memory-2-1.given.1 (sym e)) ∙ c.if-wants_memory.false) c.skip_opt-passed.ensures.skipped.next.refused
+    c.skip_opt-passed.result (λ e. sym (c.wants_memory-2-1.given.1 (sym e)) ∙ c.if-wants_memory.false) c.skip_opt-passed.ensures.skipped.refused

@@ -1,4 +1,4 @@
-use Rattle.bcder.specs.calls.Content.{Carries}
+use Rattle.bcder.specs.laws.Moved.{Carries}
 use Rattle.bcder.specs.calls.Views.{of_constructed}
 use Rattle.vectors.proofs.positions.take_some.Given as goal
 

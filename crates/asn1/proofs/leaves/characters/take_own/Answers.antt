@@ -5,6 +5,7 @@ use Rattle.asn1.proofs.Typed.{next_typed}
 use Rattle.asn1.proofs.leaves.characters.take_own.Goals as goal
 
 pub returns-clause-took : goal.returns-clause-took
+unfolding of_constructed
 returns-clause-took g c =
     let i = of_constructed g.S.Source.stream c.args.cons.now in
     let j = of_constructed g.S.Source.stream c.take_opt_from.new.cons in

@@ -5,4 +5,4 @@ use Rattle.asn1.proofs.written.OptionEncodeFields.write_fields.Goals as goal
 
 pub returns-in-None : goal.returns-in-None
 returns-in-None g c =
-    rw c.in-None.is (inl (record { what = nothing; meant = refl; wrote = record { done = appends_none (g.W.Write.contents c.args.target.now) } }))
+    rw c.in-None.is (inl (nothing, refl, record { done = appends_none (g.W.Write.contents c.args.target.now) }))

@@ -2,8 +2,9 @@
 ghost use Rattle.std.specs.Prelude.{◌≡◌, ◌≤◌, IfOk};
 ghost use Rattle.bcder.specs.x690.BitString.{contents_octets, BitShape, IsBitString};
 ghost use Rattle.bcder.specs.calls.ReadBits.{HoldBits, NoBits};
-ghost use Rattle.bcder.specs.calls.Readers.{HasAll, ReadBy, ReadOctets};
+ghost use Rattle.bcder.specs.calls.Readers.{ReadBy, ReadOctets};
 ghost use Rattle.bcder.specs.calls.Views.{of_primitive, octets_before, MovedOctets};
+ghost use Rattle.bcder.specs.steps.Remaining.{HasAll};
 
 use super::super::Primitive;
 use crate::NoMemory;

@@ -1,7 +1,8 @@
 //! Contents octets that outlive the source.
 ghost use Rattle.std.specs.Prelude.{◌≡◌, ◌≤◌};
-ghost use Rattle.bcder.specs.calls.Readers.{HasAll, ReadBy, AreNeverRefused};
+ghost use Rattle.bcder.specs.calls.Readers.{ReadBy, AreNeverRefused};
 ghost use Rattle.bcder.specs.calls.Views.{of_primitive, MovedOctets};
+ghost use Rattle.bcder.specs.steps.Remaining.{HasAll};
 
 use super::super::Primitive;
 use crate::decode::error::DecodeError;

@@ -1,4 +1,3 @@
-use Rattle.std.proofs.Common.{rules}
 use Rattle.general_names.proofs.general_name.GeneralNameEncodeParts.give_parts.Goals as goal
 
 pub returns-in-X400Address : goal.returns-in-X400Address

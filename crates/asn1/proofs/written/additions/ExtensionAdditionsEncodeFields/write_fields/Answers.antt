@@ -5,4 +5,4 @@ use Rattle.asn1.proofs.written.additions.ExtensionAdditionsEncodeFields.write_fi
 
 pub returns : goal.returns
 returns g c =
-    inl (record { what = nothing; meant = refl; wrote = record { done = appends_none (g.W.Write.contents c.args._target.now) } })
+    inl (nothing, refl, record { done = appends_none (g.W.Write.contents c.args._target.now) })

@@ -1,5 +1,5 @@
 use Rattle.std.proofs.Common.{◌≡◌, rules, subst}
-use Rattle.bcder.specs.calls.Meaning.{encoded_octets}
+use Rattle.bcder.specs.calls.Meaning.{Encoded}
 use Rattle.bcder.specs.calls.Encoders.{Writes}
 use Rattle.asn1.specs.DefaultsWritten.{WritesUnless}
 use Rattle.asn1.proofs.DefaultedBack.{writes_none, writes_some}
@@ -24,4 +24,4 @@ returns-else-is_default g c =
     let new = g.W.Write.contents c.write_fields.new.target in
     let r = c.write_fields.result in
     let wrote = writes_some (P x) (M x) (L x) old new r n c.write_fields.ensures in
-    subst (λ v. Writes encoded_octets (WritesUnless (P v) (M v)) (L v) old new r) c.self.view_is wrote
+    subst (λ v. Writes (λ (e : Encoded). e.octets) (WritesUnless (P v) (M v)) (L v) old new r) c.self.view_is wrote

@@ -1,7 +1,7 @@
 use Rattle.std.proofs.Common.{◌≡◌, ◌∙◌, refl, ap, arith, rules, sym, subst, take}
 use Rattle.bcder.specs.declared.length.Length.TheVariants.{Definite}
 use Rattle.bcder.specs.declared.decode.violation.Violation.TheVariants as violation
-use Rattle.bcder.specs.calls.Content.{FitsOwed, Advances, Moves, Enters, value_too_long}
+use Rattle.bcder.specs.calls.Content.{FitsOwed, Advances, Moves, Enters}
 use Rattle.bcder.specs.steps.Peek.{header_of, len_of}
 use Rattle.bcder.specs.calls.Views.{of_constructed}
 use Rattle.bcder.proofs.Moving.{moves_failed, open_not_ended}
@@ -76,11 +76,10 @@ returns-clause-refused g c =
           grind (arith, within, w.fits-is, c.if-fits.false)
       | in-Constructed-Indefinite w ↦ absurd (let z = sym w.fits-is ∙ c.if-fits.false in cc)
     ]) in (
-      record {
-        violation = violation.ValueTooLong;
-        violates = value_too_long refl
-            (too_long i _ c.args.size (passed g p) o.0 o.1 c.requires.usable (header_of c.args.header.now) c.requires.read.1 more);
-        named = refl;
-      },
+      (
+        violation.ValueTooLong,
+        too_long i _ c.args.size (passed g p) o.0 o.1 c.requires.usable (header_of c.args.header.now) c.requires.read.1 more,
+        refl,
+      ),
       no_front i _ c.args.size (passed g p) o.0 o.1 c.requires.usable (header_of c.args.header.now) c.requires.read.1 more,
     )

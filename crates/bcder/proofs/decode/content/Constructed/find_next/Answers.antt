@@ -3,7 +3,7 @@ use Rattle.std.specs.Prelude.{Some}
 use Rattle.bcder.specs.declared.decode.content.Kind.TheVariants as kind
 use Rattle.bcder.specs.declared.decode.header.Wanted.TheVariants.{Any}
 use Rattle.bcder.specs.declared.decode.violation.Violation.TheVariants as violation
-use Rattle.bcder.specs.calls.Content.{Resembles, UnboundedValues, in_front, truncated_contents}
+use Rattle.bcder.specs.calls.Content.{Resembles, in_front, truncated_contents, values}
 use Rattle.bcder.specs.calls.Views.{of_constructed}
 use Rattle.bcder.specs.laws.Moved.{moved_twice_is_moved}
 use Rattle.bcder.proofs.Entering.{looked_moves, looked_failed, looked_front, marker_missing, end_nothing}
@@ -88,12 +88,12 @@ pub returns-in_default-kind-clause-refused : goal.returns-in_default-kind-clause
 unfolding of_constructed
 returns-in_default-kind-clause-refused g c =
     let s = looked g (goal.at.returns-in_default-kind-clause-refused g c).After-peek in
-    let bounded : (of_constructed g.S.Source.stream c.args.self.now).kind ≡ UnboundedValues
+    let bounded : (of_constructed g.S.Source.stream c.args.self.now).kind ≡ values kind.Unbounded
     → ⊥ = λ k. c.in_default-kind.not-Unbounded (kind_of _ _ (s.kind ∙ k)) in
     let e = rw c.in-Ok-Nothing.field-0-is at c.in-Ok-Nothing.ensures.peeked in
     nothing_violated _ _ _ _ _ (none_nothing _ _ s c.in-Open.is Any refl (constructed_form g.S.Source.stream c.args.self.now) (λ k o.
     let q : c.args.self.now.kind ≡ kind.Definite = kind_of _ _ k in let r : c.args.self.now.source.now.limit ≡ Some 0 = o in search rules) bounded e)
-    (record { violation = violation.TruncatedContents; violates = truncated_contents refl (sym s.rest ∙ e) bounded; named = refl })
+    (violation.TruncatedContents, truncated_contents refl (sym s.rest ∙ e) bounded, refl)
 
 pub returns-in-Ok-Refused-clause-moves : goal.returns-in-Ok-Refused-clause-moves
 unfolding of_constructed
@@ -107,7 +107,7 @@ returns-in-Ok-Refused-clause-refused g c =
     let p = rw c.in-Ok-Refused.field-0-is at c.in-Ok-Refused.ensures.peeked in
     nothing_violated _ _ _ _ _ (unread_nothing _ _ s c.in-Open.is Any (within_constructed g.S.Source.stream g.met.S.Source.sound c.args.self.now)
     (constructed_form g.S.Source.stream c.args.self.now) p.0 p.1)
-    (record { violation = c.in-Ok-Refused.violation; violates = in_front (front_alike _ _ (looked_alike _ _ s) _ p.2); named = refl })
+    (c.in-Ok-Refused.violation, in_front (front_alike _ _ (looked_alike _ _ s) _ p.2), refl)
 
 pub returns-in-Err-clause-moves : goal.returns-in-Err-clause-moves
 unfolding of_constructed

@@ -1,6 +1,7 @@
 use Rattle.std.proofs.Common.{◌≡◌, refl, ap}
 use Rattle.bcder.specs.declared.decode.violation.Violation.TheVariants as violation
-use Rattle.bcder.specs.calls.Content.{values, IndefiniteValues, stray_end}
+use Rattle.bcder.specs.declared.decode.content.Kind.TheVariants as kind
+use Rattle.bcder.specs.calls.Content.{values, stray_end}
 use Rattle.bcder.specs.calls.Views.{of_constructed}
 use Rattle.bcder.proofs.Moving.{moves_failed, open_not_ended}
 use Rattle.bcder.proofs.Entering.{takes_marker, marker_moves, marker_here, no_end_here, advances_to, kind_of}
@@ -41,11 +42,7 @@ returns-in_default-clause-refused g c =
     let o = octets_behind g.S.Source.stream g.met.S.Source.sound c.args.self.now c.advance.new.self c.args.size c.requires.read.0 in
     let a = advances_behind g.S.Source.stream g.met.S.Source.sound c.args.self.now c.advance.new.self c.args.size c.requires.read.0 c.advance.ensures.rest
     c.advance.ensures.faults c.advance.ensures.kept in
-    let n : i.kind ≡ IndefiniteValues → ⊥ = λ k. c.in_default.not-Indefinite (kind_of _ _ k) in (
-      record {
-        violation = violation.StrayEnd;
-        violates = stray_end refl n _ (marker_here i _ c.args.size a o.0 o.1 c.requires.usable c.requires.read.1);
-        named = refl;
-      },
+    let n : i.kind ≡ values kind.Indefinite → ⊥ = λ k. c.in_default.not-Indefinite (kind_of _ _ k) in (
+      (violation.StrayEnd, stray_end refl n _ (marker_here i _ c.args.size a o.0 o.1 c.requires.usable c.requires.read.1), refl),
       no_end_here i _ c.args.size a o.0 o.1 c.requires.usable c.requires.read.1 n,
     )

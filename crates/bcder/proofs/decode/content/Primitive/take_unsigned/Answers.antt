@@ -14,6 +14,6 @@ returns-in-Err-bytes_of_all-clause-read g c =
     let y = c.if-not-is_unsigned.ensures.yes refl in
     let s : IsSmallest i.stream.rest = subst IsSmallest same y.0 in
     let l : Leads false i.stream.rest = subst (Leads false) same y.1 in
-    refuses_octets _ _ i _ _ (record { owed = all.owed ∙ ap Some (sym all.count); count = refl })
+    refuses_octets _ _ i _ _ (all.owed ∙ ap Some (sym all.count))
     (inr (c.no_memory.ensures, (big_endian i.stream.rest, record { smallest = s; is = number_positive i.stream.rest _ l refl }))) c.in-Ok.ensures.no_fault
     c.in-Ok.ensures.rest c.in-Ok.ensures.owed c.in-Ok.ensures.mode c.in-Ok.ensures.marked

@@ -1,5 +1,5 @@
 use Rattle.std.proofs.Common.{length, ap, sym, arith, Err}
-use Rattle.bcder.specs.calls.Meaning.{encoded_octets}
+use Rattle.bcder.specs.calls.Meaning.{Encoded}
 use Rattle.bcder.proofs.Enclosing.{contents_of}
 use Rattle.bcder.proofs.Writing.{same_ok, same_octets, same_answer, lacked}
 use Rattle.bcder.proofs.encode.primitive.PrimitiveEncoder.put.Goals as goal
@@ -22,4 +22,4 @@ pub returns-in-Ok-clause-written : goal.returns-in-Ok-clause-written
 returns-in-Ok-clause-written g c = λ _ e meant.
     let one = (g.met.P.PrimitiveContent.lawful c.args.self.now.prim c.args.mode).one in
     let inside = contents_of c.args.self.now.tag _ e meant in
-    same_octets (ap encoded_octets (sym inside.is)) (c.write_value.ensures one inside.octets inside.meant)
+    same_octets (ap (λ (e : Encoded). e.octets) (sym inside.is)) (c.write_value.ensures one inside.octets inside.meant)

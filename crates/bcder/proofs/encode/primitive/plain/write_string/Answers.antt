@@ -7,20 +7,19 @@ use Rattle.bcder.proofs.encode.primitive.plain.write_string.Goals as goal
 pub returns-then-fits_primitive : goal.returns-then-fits_primitive
 returns-then-fits_primitive g c =
     let o : AreOctets c.args.octets.now = λ i. omega (arith, c.type_inv.octets i) in
-    inl (record {
-      what = c.args.octets.now;
-      meant =
-          string_fits LongCerPrimitive c.args.mode c.args.octets.now o (sym c.fits_primitive.ensures ∙ c.if-fits_primitive.true);
-      wrote = c.write_all.ensures;
-    })
+    inl (
+      c.args.octets.now,
+      string_fits LongCerPrimitive c.args.mode c.args.octets.now o (sym c.fits_primitive.ensures ∙ c.if-fits_primitive.true),
+      c.write_all.ensures,
+    )
 
 pub returns-else-fits_primitive : goal.returns-else-fits_primitive
 returns-else-fits_primitive g c =
     let o : AreOctets c.args.octets.now = λ i. omega (arith, c.type_inv.octets i) in
-    inr (record {
-      error = LongCerPrimitive;
-      answered = refl;
-      refuses = refuses_string LongCerPrimitive c.args.mode c.args.octets.now (λ e. cc) o
-          (sym c.fits_primitive.ensures ∙ c.if-fits_primitive.false);
-      kept = search rules;
-    })
+    inr (
+      LongCerPrimitive,
+      refl,
+      refuses_string LongCerPrimitive c.args.mode c.args.octets.now (λ e. cc) o
+          (sym c.fits_primitive.ensures ∙ c.if-fits_primitive.false),
+      search rules,
+    )

@@ -1,6 +1,6 @@
 use Rattle.std.proofs.Common.{ap, sym, ◌∙◌, Err}
 use Rattle.bcder.specs.x690.Octets.{fits_length, constructed_length}
-use Rattle.bcder.specs.calls.Meaning.{encoded_octets}
+use Rattle.bcder.specs.calls.Meaning.{Encoded}
 use Rattle.bcder.proofs.Enclosing.{inside_of, length_fits}
 use Rattle.bcder.proofs.Noting.{one_size, noted_read}
 use Rattle.bcder.proofs.Writing.{same_octets, same_answer, lacked}
@@ -33,4 +33,4 @@ returns-in-Ok g c = λ _ e meant.
     let one = (g.met.V.Values.lawful c.args.value.now.inner mode c.requires.can).one in
     let (x, found, is) = c.in-Ok.ensures.sized in
     let len = ap (constructed_length mode) (one_size one _ x found is inside.values inside.meant) in
-    same_octets (ap encoded_octets (sym inside.is)) (c.put_enclosed.ensures.written inside.values inside.meant len)
+    same_octets (ap (λ (e : Encoded). e.octets) (sym inside.is)) (c.put_enclosed.ensures.written inside.values inside.meant len)

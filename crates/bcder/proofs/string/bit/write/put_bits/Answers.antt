@@ -9,21 +9,20 @@ pub returns-then-not-fits_primitive : goal.returns-then-not-fits_primitive
 returns-then-not-fits_primitive g c =
     let x : Bits = record { unused = c.args.unused; octets = c.args.octets.now } in
     let o : AreOctets c.args.octets.now = λ i. omega (arith, c.type_inv.octets i) in
-    inr (record {
-      error = c.args.refusal;
-      answered = ap Err c.store_refusal.ensures;
-      refuses = bits_refused c.args.refusal c.args.mode x
-          (omega arith) o c.requires (sym c.fits_primitive.ensures ∙ c.if-not-fits_primitive.true);
-      kept = search rules;
-    })
+    inr (
+      c.args.refusal,
+      ap Err c.store_refusal.ensures,
+      bits_refused c.args.refusal c.args.mode x
+          (omega arith) o c.requires (sym c.fits_primitive.ensures ∙ c.if-not-fits_primitive.true),
+      search rules,
+    )
 
 pub returns : goal.returns
 returns g c =
     let x : Bits = record { unused = c.args.unused; octets = c.args.octets.now } in
     let o : AreOctets c.args.octets.now = λ i. omega (arith, c.type_inv.octets i) in
-    inl (record {
-      what = contents_octets (as_written c.args.mode x);
-      meant =
-          bits_fit c.args.refusal c.args.mode x (omega arith) o (sym c.fits_primitive.ensures ∙ c.if-not-fits_primitive.false);
-      wrote = c.put_contents.ensures;
-    })
+    inl (
+      contents_octets (as_written c.args.mode x),
+      bits_fit c.args.refusal c.args.mode x (omega arith) o (sym c.fits_primitive.ensures ∙ c.if-not-fits_primitive.false),
+      c.put_contents.ensures,
+    )

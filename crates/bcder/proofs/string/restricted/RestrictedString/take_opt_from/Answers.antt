@@ -35,6 +35,7 @@ returns-then-is_constructed-clause-moves g c =
     (header_of c.in-Ok-Some.header) e.0 e.1 _ c.take_constructed_body.ensures)
 
 pub returns-then-is_constructed-clause-took : goal.returns-then-is_constructed-clause-took
+unfolding of_constructed
 returns-then-is_constructed-clause-took g c =
     let e = rw c.in-Ok-Some.field-0-is at c.in-Ok-Some.ensures.entered in
     let b = of_either_form (of_constructed g.S.Source.stream) _ (Some false) _ (header_of c.in-Ok-Some.header) _ _
@@ -59,6 +60,7 @@ returns-in-Err-take_primitive_body-clause-moves g c =
     (header_of c.in-Ok-Some.header) e.0 e.1 _ c.take_primitive_body.ensures)
 
 pub returns-in-Ok-Some-take_primitive_body-clause-took : goal.returns-in-Ok-Some-take_primitive_body-clause-took
+unfolding of_constructed
 returns-in-Ok-Some-take_primitive_body-clause-took g c =
     let e = rw c.in-Ok-Some.field-0-is at c.in-Ok-Some.ensures.entered in
     let i = of_constructed g.S.Source.stream c.args.cons.now in
@@ -73,6 +75,7 @@ returns-in-Ok-Some-take_primitive_body-clause-took g c =
     (takes_next (of_primitive g.S.Source.stream) _ None (tagged c.TAG.result) i _ j (header_of c.in-Ok-Some.header) e.0 e.1 _ b)))
 
 pub returns-in-Err-take_primitive_body-clause-took : goal.returns-in-Err-take_primitive_body-clause-took
+unfolding of_constructed
 returns-in-Err-take_primitive_body-clause-took g c =
     let e = rw c.in-Ok-Some.field-0-is at c.in-Ok-Some.ensures.entered in
     let i = of_constructed g.S.Source.stream c.args.cons.now in

@@ -1,6 +1,6 @@
 use Rattle.std.proofs.Common.{ap, sym, ◌∙◌}
 use Rattle.bcder.specs.x690.Octets.{fits_length}
-use Rattle.bcder.specs.calls.Meaning.{encoded_octets}
+use Rattle.bcder.specs.calls.Meaning.{Encoded}
 use Rattle.bcder.proofs.Enclosing.{inside_of, length_fits}
 use Rattle.bcder.proofs.Noting.{where_ok, in_any_case, contents_may, contents_read, not_noted}
 use Rattle.bcder.proofs.Writing.{same_octets}
@@ -26,7 +26,7 @@ returns-in-Some-clause-written g c = λ _ e meant.
     let inside = inside_of c.args.self.now.tag mode _ e meant in
     let x = c.args.self.now.inner in
     let (told, may) = contents_may (g.V.Values.means x mode) (g.V.Values.reads x mode) mode _ _ _ c.in-Some.ensures c.requires.sized in
-    same_octets (ap encoded_octets (sym inside.is)) (c.put_enclosed.ensures.written inside.values inside.meant (told inside.values inside.meant))
+    same_octets (ap (λ (e : Encoded). e.octets) (sym inside.is)) (c.put_enclosed.ensures.written inside.values inside.meant (told inside.values inside.meant))
 
 pub returns-in-Some-clause-left : goal.returns-in-Some-clause-left
 returns-in-Some-clause-left g c =

@@ -1,5 +1,5 @@
 use Rattle.std.proofs.Common.{inl, inr, sym, ap}
-use Rattle.bcder.specs.calls.Meaning.{encoded_octets}
+use Rattle.bcder.specs.calls.Meaning.{Encoded}
 use Rattle.bcder.proofs.Noting.{where_ok, first_may, rest_may, then_read}
 use Rattle.bcder.proofs.Writing.{stops, follows_on, halts, lacks_more, same_octets}
 use Rattle.bcder.proofs.encode.values.parts.ChainParts.write_parts.Goals as goal
@@ -19,13 +19,13 @@ write_parts-requires-clause-sized g c =
 pub returns-in_err-write_known-clause-written : goal.returns-in_err-write_known-clause-written
 returns-in_err-write_known-clause-written g c = λ e (x, y, p, q, is).
     let one = (g.met.V.Values.lawful c.args.self.now.first.now c.args.mode c.requires.can.0).one in
-    same_octets (ap encoded_octets (sym is))
+    same_octets (ap (λ (e : Encoded). e.octets) (sym is))
     (halts _ c.from_residual.ensures (lacks_more _ inl (stops y.octets (c.in_err-write_known.ensures.written one x p))))
 
 pub returns-clause-written : goal.returns-clause-written
 returns-clause-written g c = λ e (x, y, p, q, is).
     let one = (g.met.V.Values.lawful c.args.self.now.first.now c.args.mode c.requires.can.0).one in
-    same_octets (ap encoded_octets (sym is)) (follows_on (c.in_ok-write_known.ensures.written one x p) (lacks_more _ inr (c.write_parts.ensures.written y q)))
+    same_octets (ap (λ (e : Encoded). e.octets) (sym is)) (follows_on (c.in_ok-write_known.ensures.written one x p) (lacks_more _ inr (c.write_parts.ensures.written y q)))
 
 pub returns-clause-left : goal.returns-clause-left
 returns-clause-left g c =

@@ -1,0 +1,26 @@
+//! Values of extensions.
+use crate::structures::{Tallies, compare};
+use anyhow::Error;
+use pkix::{KeyUsage, ReasonCode, SubjectDirectoryAttributes};
+use std::alloc::Global;
+
+/// Compares a value of an extension, or a part of one, by the name of its type in its RFC.
+pub fn compare_extension_value(
+    alloc: Global,
+    kind: &str,
+    octets: &[u8],
+    is_one: bool,
+    tallies: &mut Tallies,
+) -> Result<(), Error> {
+    match kind {
+        "KeyUsage" => compare::<KeyUsage>(alloc, octets, is_one, tallies),
+        "CRLReason" => compare::<ReasonCode>(alloc, octets, is_one, tallies),
+        "SubjectDirectoryAttributes" => {
+            compare::<SubjectDirectoryAttributes>(alloc, octets, is_one, tallies)
+        }
+        _ => {
+            tallies.read.count(false);
+            Ok(())
+        }
+    }
+}
