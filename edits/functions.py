@@ -126,6 +126,9 @@ def impl_name(head):
             is_above = words[at + 1 : at + 2] == [":"] and not depth
             if re.match(r"[^\W\d]", word) and word not in ("mut", *own) and not is_above:
                 text += word[0].upper() + word[1:]
+            elif depth and word.isdigit():
+                # Of `Context<0>` both are written.
+                text += word
             else:
                 text += {"&": "Ref", "mut": "Mut", "[": "Slice"}.get(word, "")
         return text

@@ -131,5 +131,9 @@ class Functions(unittest.TestCase):
         text = "trait B { fn f(); } impl<E: A> B for E { fn f() {} } impl<E: A> B for &E { fn f() {} }"
         self.assertEqual([*functions_of(text)], ["B::f", "AnyB::f", "RefB::f"])
 
+    def test_numbers_in_impls(self):
+        text = "impl D<Implicit<Context<0>, u32>> for N { fn f() {} }"
+        self.assertEqual([*functions_of(text)], ["NDImplicitContext0U32::f"])
+
 
 unittest.main()

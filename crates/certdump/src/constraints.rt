@@ -2,27 +2,10 @@
 use crate::decoded::{Unshown, read};
 use crate::general_name::text_of_general;
 use crate::page::Page;
-use asn1::{Any, Context, Implicit, NamedBits, Sequence, SequenceOf};
-use pkix::{BasicConstraints, PolicyConstraints};
-
-/// `GeneralSubtree ::= SEQUENCE { base GeneralName, minimum [0] BaseDistance DEFAULT 0, maximum [1]
-/// BaseDistance OPTIONAL }` (RFC 5280, section 4.2.1.10).
-type Subtree = Sequence<
-    (
-        Any,
-        Option<Implicit<Context<0>, u32>>,
-        Option<Implicit<Context<1>, u32>>,
-    ),
->;
-
-/// `NameConstraints ::= SEQUENCE { permittedSubtrees [0] GeneralSubtrees OPTIONAL, excludedSubtrees
-/// [1] GeneralSubtrees OPTIONAL }`, where `GeneralSubtrees` are a SEQUENCE OF subtrees.
-type NameConstraints = Sequence<
-    (
-        Option<Implicit<Context<0>, SequenceOf<Any>>>,
-        Option<Implicit<Context<1>, SequenceOf<Any>>>,
-    ),
->;
+use asn1::NamedBits;
+use extensions::{GeneralSubtrees, NameConstraints};
+use pkix::{BasicConstraints, KeyUsage, PolicyConstraints};
+use std::alloc::AllocError;
 
 /// What a key may be used for, by the position of its bit (RFC 5280, section 4.2.1.3).
 const KEY_USES: &[&str] = &[
@@ -43,7 +26,7 @@ pub(crate) fn show_bits(
     depth: usize,
     set: &NamedBits,
     names: &[&str],
-) -> Result<(), Unshown> {
+) -> Result<(), AllocError> {
     let mut line = String::new(page.alloc);
     let mut position = 0usize;
     for name in names {
@@ -55,13 +38,13 @@ pub(crate) fn show_bits(
         }
         position = position.saturating_add(1);
     }
-    Ok(page.line(depth, line.as_str())?)
+    page.line(depth, line.as_str())
 }
 
 /// Shows what a key may be used for.
 pub(crate) fn show_key_usage(page: &mut Page, depth: usize, octets: &[u8]) -> Result<(), Unshown> {
-    let usage = read::<NamedBits>(page, octets)?;
-    show_bits(page, depth, &usage, KEY_USES)
+    let usage = read::<KeyUsage>(page, octets)?;
+    Ok(show_bits(page, depth, &usage, KEY_USES)?)
 }
 
 /// Shows whether a subject is an authority.
@@ -106,12 +89,11 @@ fn show_subtrees(
     page: &mut Page,
     depth: usize,
     title: &str,
-    subtrees: &[Any],
-) -> Result<(), Unshown> {
+    subtrees: &GeneralSubtrees,
+) -> Result<(), AllocError> {
     page.line(depth, title)?;
-    for subtree in subtrees {
-        let Sequence((base, _, _)) = read::<Subtree>(page, subtree.as_slice())?;
-        let text = text_of_general(page, &base)?;
+    for subtree in subtrees.0.iter() {
+        let text = text_of_general(page, &subtree.base)?;
         page.line(depth.saturating_add(1), text.as_str())?;
     }
     Ok(())
@@ -123,12 +105,12 @@ pub(crate) fn show_name_constraints(
     depth: usize,
     octets: &[u8],
 ) -> Result<(), Unshown> {
-    let Sequence((permitted, excluded)) = read::<NameConstraints>(page, octets)?;
-    if let Some(subtrees) = permitted {
-        show_subtrees(page, depth, "Permitted:", subtrees.value.0.as_slice())?;
+    let constraints = read::<NameConstraints>(page, octets)?;
+    if let Some(subtrees) = &constraints.permitted_subtrees {
+        show_subtrees(page, depth, "Permitted:", &subtrees.value)?;
     }
-    if let Some(subtrees) = excluded {
-        show_subtrees(page, depth, "Excluded:", subtrees.value.0.as_slice())?;
+    if let Some(subtrees) = &constraints.excluded_subtrees {
+        show_subtrees(page, depth, "Excluded:", &subtrees.value)?;
     }
     Ok(())
 }

@@ -4,18 +4,22 @@ use crate::constraints::{
     show_basic_constraints, show_key_usage, show_name_constraints, show_policy_constraints,
 };
 use crate::decoded::{Unshown, read, whole};
-use crate::general_name::{GeneralNames, show_names};
+use crate::general_name::show_names;
 use crate::name::{number_of, title_of};
 use crate::page::Page;
-use crate::points::{show_access, show_authority_key, show_points};
+use crate::points::{show_access, show_authority_key, show_issuing_point, show_points};
 use crate::policies::{show_mappings, show_policies};
 use crate::shown::{Capitals, Number};
-use asn1::{GeneralizedTime, SequenceOf};
+use crate::text::shown;
+use asn1::SequenceOf;
+use bcder::Mode;
 use bcder::string::Ia5String;
-use bcder::{Integer, Mode};
-use cli::shown::Shown;
+use general_names::GeneralNames;
 use names::name_of;
-use pkix::{ExtKeyUsage, Extension, Extensions, SubjectKeyIdentifier, Time};
+use pkix::{
+    CrlNumber, CrlReason, ExtKeyUsage, Extension, Extensions, InvalidityDate, ReasonCode,
+    SubjectKeyIdentifier, Time,
+};
 use std::alloc::AllocError;
 
 /// Shows purposes of a key.
@@ -42,25 +46,26 @@ fn show_subject_key(page: &mut Page, depth: usize, octets: &[u8]) -> Result<(), 
 /// Shows names.
 fn show_general_names(page: &mut Page, depth: usize, octets: &[u8]) -> Result<(), Unshown> {
     let names = read::<GeneralNames>(page, octets)?;
-    show_names(page, depth, names.0.as_slice())
+    Ok(show_names(page, depth, &names)?)
 }
 
 /// Shows a number.
 fn show_number(page: &mut Page, depth: usize, octets: &[u8]) -> Result<(), Unshown> {
-    let number = read::<Integer>(page, octets)?;
+    let number = read::<CrlNumber>(page, octets)?;
     Ok(page.line(depth, Number(&number))?)
 }
 
 /// Shows a time.
 fn show_time(page: &mut Page, depth: usize, octets: &[u8]) -> Result<(), Unshown> {
-    let time = read::<GeneralizedTime>(page, octets)?;
+    let time = read::<InvalidityDate>(page, octets)?;
     Ok(page.line(depth, Moment(Time::GeneralTime(time)))?)
 }
 
 /// Shows a comment.
 fn show_comment(page: &mut Page, depth: usize, octets: &[u8]) -> Result<(), Unshown> {
     let comment = read::<Ia5String>(page, octets)?;
-    Ok(page.line(depth, Shown(comment.as_str().unwrap_or("")))?)
+    let text = shown(page.alloc, &comment)?;
+    Ok(page.line(depth, text.as_str())?)
 }
 
 /// Shows features of TLS (RFC 7633).
@@ -76,29 +81,26 @@ fn show_features(page: &mut Page, depth: usize, octets: &[u8]) -> Result<(), Uns
     Ok(())
 }
 
-/// Returns why a certificate is revoked (RFC 5280, section 5.3.1).
-fn reason(octets: &[u8]) -> Option<&'static str> {
-    match octets {
-        [10, 1, 0] => Some("Unspecified"),
-        [10, 1, 1] => Some("Key Compromise"),
-        [10, 1, 2] => Some("CA Compromise"),
-        [10, 1, 3] => Some("Affiliation Changed"),
-        [10, 1, 4] => Some("Superseded"),
-        [10, 1, 5] => Some("Cessation Of Operation"),
-        [10, 1, 6] => Some("Certificate Hold"),
-        [10, 1, 8] => Some("Remove From CRL"),
-        [10, 1, 9] => Some("Privilege Withdrawn"),
-        [10, 1, 10] => Some("AA Compromise"),
-        _ => None,
+/// Returns the words for why a certificate is revoked.
+fn words_of(reason: CrlReason) -> &'static str {
+    match reason {
+        CrlReason::Unspecified => "Unspecified",
+        CrlReason::KeyCompromise => "Key Compromise",
+        CrlReason::CaCompromise => "CA Compromise",
+        CrlReason::AffiliationChanged => "Affiliation Changed",
+        CrlReason::Superseded => "Superseded",
+        CrlReason::CessationOfOperation => "Cessation Of Operation",
+        CrlReason::CertificateHold => "Certificate Hold",
+        CrlReason::RemoveFromCrl => "Remove From CRL",
+        CrlReason::PrivilegeWithdrawn => "Privilege Withdrawn",
+        CrlReason::AaCompromise => "AA Compromise",
     }
 }
 
-/// Shows octets in hexadecimal, or why a certificate is revoked.
+/// Shows why a certificate is revoked.
 fn show_reason(page: &mut Page, depth: usize, octets: &[u8]) -> Result<(), Unshown> {
-    match reason(octets) {
-        Some(reason) => Ok(page.line(depth, reason)?),
-        None => Ok(page.octets(depth, octets)?),
-    }
+    let reason = read::<ReasonCode>(page, octets)?;
+    Ok(page.line(depth, words_of(reason.0))?)
 }
 
 /// Shows the value of the extension with a number.
@@ -111,6 +113,7 @@ fn show_value(page: &mut Page, depth: usize, number: &str, octets: &[u8]) -> Res
         "2.5.29.20" | "2.5.29.27" | "2.5.29.54" => show_number(page, depth, octets),
         "2.5.29.21" => show_reason(page, depth, octets),
         "2.5.29.24" => show_time(page, depth, octets),
+        "2.5.29.28" => show_issuing_point(page, depth, octets),
         "2.5.29.30" => show_name_constraints(page, depth, octets),
         "2.5.29.31" | "2.5.29.46" => show_points(page, depth, octets),
         "2.5.29.32" => show_policies(page, depth, octets),

@@ -1,47 +1,15 @@
 //! Where lists of revoked certificates and other things about an issuer are found.
 use crate::constraints::show_bits;
 use crate::decoded::{Unshown, read, whole};
-use crate::general_name::{GeneralNames, show_each, show_names, text_of_general};
+use crate::general_name::{show_each, show_names, text_of_general};
 use crate::name::title_of;
 use crate::page::Page;
 use crate::shown::{Capitals, magnitude};
-use asn1::{
-    Any, Choice2, Context, Explicit, Implicit, NamedBits, ObjectIdentifier, Sequence, SequenceOf,
+use distribution_points::{
+    CrlDistributionPoints, DistributionPoint, DistributionPointName, IssuingDistributionPoint,
 };
-use bcder::{Integer, OctetString};
-use pkix::RelativeDistinguishedName;
-
-/// `DistributionPointName ::= CHOICE { fullName [0] GeneralNames, nameRelativeToCRLIssuer [1]
-/// RelativeDistinguishedName }` (RFC 5280, section 4.2.1.13).
-type PointName = Choice2<
-    Implicit<Context<0>, GeneralNames>,
-    Implicit<Context<1>, RelativeDistinguishedName>,
->;
-
-/// `DistributionPoint ::= SEQUENCE { distributionPoint [0] DistributionPointName OPTIONAL, reasons
-/// [1] ReasonFlags OPTIONAL, cRLIssuer [2] GeneralNames OPTIONAL }`.
-type Point = Sequence<
-    (
-        Option<Explicit<Context<0>, Any>>,
-        Option<Implicit<Context<1>, NamedBits>>,
-        Option<Implicit<Context<2>, GeneralNames>>,
-    ),
->;
-
-/// `AccessDescription ::= SEQUENCE { accessMethod OBJECT IDENTIFIER, accessLocation GeneralName }`
-/// (RFC 5280, section 4.2.2.1).
-type Access = Sequence<(ObjectIdentifier, Any)>;
-
-/// `AuthorityKeyIdentifier ::= SEQUENCE { keyIdentifier [0] KeyIdentifier OPTIONAL,
-/// authorityCertIssuer [1] GeneralNames OPTIONAL, authorityCertSerialNumber [2]
-/// CertificateSerialNumber OPTIONAL }` (RFC 5280, section 4.2.1.1).
-type AuthorityKey = Sequence<
-    (
-        Option<Implicit<Context<0>, OctetString>>,
-        Option<Implicit<Context<1>, GeneralNames>>,
-        Option<Implicit<Context<2>, Integer>>,
-    ),
->;
+use extensions::{AuthorityInfoAccess, AuthorityKeyIdentifier};
+use std::alloc::AllocError;
 
 /// Why certificates are revoked, by the position of the bit.
 const REASONS: &[&str] = &[
@@ -56,46 +24,88 @@ const REASONS: &[&str] = &[
     "AA Compromise",
 ];
 
-/// Shows a place where a list is found.
-fn show_point(page: &mut Page, depth: usize, octets: &[u8]) -> Result<(), Unshown> {
-    let inner = depth.saturating_add(1);
-    let Sequence((name, reasons, issuer)) = read::<Point>(page, octets)?;
-    if let Some(name) = name {
-        match read::<PointName>(page, name.value.as_slice())? {
-            Choice2::One(full) => {
-                page.line(depth, "Full Name:")?;
-                show_each(page, inner, full.value.0.as_slice())?;
-            }
-            Choice2::Two(_) => page.line(depth, "Relative Name")?,
+/// Shows the place of a list.
+fn show_place(
+    page: &mut Page,
+    depth: usize,
+    place: &DistributionPointName,
+) -> Result<(), AllocError> {
+    match place {
+        DistributionPointName::FullName(names) => {
+            page.line(depth, "Full Name:")?;
+            show_each(page, depth.saturating_add(1), &names.value)
         }
+        DistributionPointName::NameRelativeToCrlIssuer(_) => page.line(depth, "Relative Name"),
     }
-    if let Some(reasons) = reasons {
+}
+
+/// Shows a place where a list is found.
+fn show_point(page: &mut Page, depth: usize, point: &DistributionPoint) -> Result<(), AllocError> {
+    let inner = depth.saturating_add(1);
+    if let Some(place) = &point.distribution_point {
+        show_place(page, depth, &place.value)?;
+    }
+    if let Some(reasons) = &point.reasons {
         page.line(depth, "Reasons:")?;
         show_bits(page, inner, &reasons.value, REASONS)?;
     }
-    if let Some(issuer) = issuer {
+    if let Some(issuer) = &point.crl_issuer {
         page.line(depth, "CRL Issuer:")?;
-        show_each(page, inner, issuer.value.0.as_slice())?;
+        show_each(page, inner, &issuer.value)?;
     }
     Ok(())
 }
 
 /// Shows where lists are found.
 pub(crate) fn show_points(page: &mut Page, depth: usize, octets: &[u8]) -> Result<(), Unshown> {
-    let points = read::<SequenceOf<Any>>(page, octets)?;
+    let points = read::<CrlDistributionPoints>(page, octets)?;
     for point in points.0.iter() {
-        show_point(page, depth, point.as_slice())?;
+        show_point(page, depth, point)?;
+    }
+    Ok(())
+}
+
+/// Shows which certificates a list is about.
+pub(crate) fn show_issuing_point(
+    page: &mut Page,
+    depth: usize,
+    octets: &[u8],
+) -> Result<(), Unshown> {
+    let point = read::<IssuingDistributionPoint>(page, octets)?;
+    if let Some(place) = &point.distribution_point {
+        show_place(page, depth, &place.value)?;
+    }
+    for (is_so, text) in [
+        (
+            point.only_contains_user_certs.value.value,
+            "Only User Certificates",
+        ),
+        (
+            point.only_contains_ca_certs.value.value,
+            "Only CA Certificates",
+        ),
+        (point.indirect_crl.value.value, "Indirect CRL"),
+    ] {
+        if is_so {
+            page.line(depth, text)?;
+        }
+    }
+    if let Some(reasons) = &point.only_some_reasons {
+        page.line(depth, "Only Some Reasons:")?;
+        show_bits(page, depth.saturating_add(1), &reasons.value, REASONS)?;
+    }
+    if point.only_contains_attribute_certs.value.value {
+        page.line(depth, "Only Attribute Certificates")?;
     }
     Ok(())
 }
 
 /// Shows where something about an issuer is found.
 pub(crate) fn show_access(page: &mut Page, depth: usize, octets: &[u8]) -> Result<(), Unshown> {
-    let places = read::<SequenceOf<Access>>(page, octets)?;
+    let places = read::<AuthorityInfoAccess>(page, octets)?;
     for place in places.0.iter() {
-        let Sequence((method, location)) = place;
-        let title = title_of(page.alloc, method)?;
-        let text = text_of_general(page, location)?;
+        let title = title_of(page.alloc, &place.access_method)?;
+        let text = text_of_general(page, &place.access_location)?;
         page.line(
             depth,
             format_args!("{} - {}", title.as_str(), text.as_str()),
@@ -110,15 +120,15 @@ pub(crate) fn show_authority_key(
     depth: usize,
     octets: &[u8],
 ) -> Result<(), Unshown> {
-    let Sequence((key, issuer, number)) = read::<AuthorityKey>(page, octets)?;
-    if let Some(key) = key {
-        let key = whole(page.alloc, &key.value)?;
-        page.line(depth, Capitals(key.as_slice()))?;
+    let key = read::<AuthorityKeyIdentifier>(page, octets)?;
+    if let Some(id) = &key.key_identifier {
+        let id = whole(page.alloc, &id.value)?;
+        page.line(depth, Capitals(id.as_slice()))?;
     }
-    if let Some(issuer) = issuer {
-        show_names(page, depth, issuer.value.0.as_slice())?;
+    if let Some(issuer) = &key.authority_cert_issuer {
+        show_names(page, depth, &issuer.value)?;
     }
-    if let Some(number) = number {
+    if let Some(number) = &key.authority_cert_serial_number {
         let octets = magnitude(number.value.as_slice());
         page.line(depth, format_args!("serial:{}", Capitals(octets)))?;
     }

@@ -1,35 +1,42 @@
 //! Policies of certificates (RFC 5280, section 4.2.1.4).
-use crate::decoded::{Unshown, contents, read};
-use crate::name::{add_value, number_of};
+use crate::decoded::{Unshown, read};
+use crate::name::number_of;
 use crate::page::Page;
-use asn1::{Any, ObjectIdentifier, Sequence, SequenceOf};
-use cli::shown::ShownOctets;
+use crate::shown::Number;
+use crate::text::shown;
+use asn1::ObjectIdentifier;
+use extensions::{CpsUri, DisplayText, UserNotice};
 use names::name_of;
 use pkix::{CertificatePolicies, PolicyInformation, PolicyMappings, PolicyQualifierInfo};
 use std::alloc::{AllocError, Global};
 
-/// `NoticeReference ::= SEQUENCE { organization DisplayText, noticeNumbers SEQUENCE OF INTEGER }`,
-/// and the text behind it: the parts of a UserNotice.
-type NoticeReference = Sequence<(Any, SequenceOf<u32>)>;
+/// Returns the text that is shown to users.
+fn text_to_show(alloc: Global, text: &DisplayText) -> Result<String, AllocError> {
+    match text {
+        DisplayText::Ia5String(string) => shown(alloc, &string.0),
+        DisplayText::VisibleString(string) => shown(alloc, &string.0),
+        DisplayText::BmpString(string) => shown(alloc, &string.0),
+        DisplayText::Utf8String(string) => shown(alloc, &string.0),
+    }
+}
 
-/// Shows the parts of a notice to users: a reference, and a text.
-fn show_notice(page: &mut Page, depth: usize, octets: &[u8]) -> Result<(), Unshown> {
-    let parts = read::<SequenceOf<Any>>(page, octets)?;
+/// Shows a notice to users.
+fn show_notice(page: &mut Page, depth: usize, notice: &UserNotice) -> Result<(), AllocError> {
     page.line(depth, "User Notice:")?;
     let inner = depth.saturating_add(1);
-    for part in parts.0.iter() {
-        let mut text = String::new(page.alloc);
-        if contents(page.mode, part).is_some() {
-            add_value(page, &mut text, part)?;
-            page.line(inner, format_args!("Explicit Text: {}", text.as_str()))?;
-        } else {
-            let Sequence((organization, numbers)) = read::<NoticeReference>(page, part.as_slice())?;
-            add_value(page, &mut text, &organization)?;
-            page.line(inner, format_args!("Organization: {}", text.as_str()))?;
-            for number in numbers.0.iter() {
-                page.line(inner, format_args!("Number: {number}"))?;
+    if let Some(reference) = &notice.notice_ref {
+        let text = text_to_show(page.alloc, &reference.organization)?;
+        page.line(inner, format_args!("Organization: {}", text.as_str()))?;
+        for number in reference.notice_numbers.0.iter() {
+            match i64::try_from(number) {
+                Ok(number) => page.line(inner, format_args!("Number: {number}"))?,
+                Err(_) => page.line(inner, format_args!("Number: {}", Number(number)))?,
             }
         }
+    }
+    if let Some(text) = &notice.explicit_text {
+        let text = text_to_show(page.alloc, text)?;
+        page.line(inner, format_args!("Explicit Text: {}", text.as_str()))?;
     }
     Ok(())
 }
@@ -41,17 +48,23 @@ fn show_qualifier(
     qualifier: &PolicyQualifierInfo,
 ) -> Result<(), Unshown> {
     let number = number_of(page.alloc, &qualifier.policy_qualifier_id)?;
-    let value = &qualifier.qualifier;
-    match (number.as_str(), contents(page.mode, value)) {
-        ("1.3.6.1.5.5.7.2.1", Some((_, octets))) => {
-            Ok(page.line(depth, format_args!("CPS: {}", ShownOctets(octets)))?)
+    let octets = qualifier.qualifier.as_slice();
+    match number.as_str() {
+        "1.3.6.1.5.5.7.2.1" => {
+            let place = read::<CpsUri>(page, octets)?;
+            let text = shown(page.alloc, &place.0)?;
+            page.line(depth, format_args!("CPS: {}", text.as_str()))?;
         }
-        ("1.3.6.1.5.5.7.2.2", None) => show_notice(page, depth, value.as_slice()),
-        _ => {
-            page.line(depth, format_args!("Qualifier: {}", number.as_str()))?;
-            Ok(page.octets(depth, value.as_slice())?)
+        "1.3.6.1.5.5.7.2.2" => {
+            let notice = read::<UserNotice>(page, octets)?;
+            show_notice(page, depth, &notice)?;
+        }
+        number => {
+            page.line(depth, format_args!("Qualifier: {number}"))?;
+            page.octets(depth, octets)?;
         }
     }
+    Ok(())
 }
 
 /// Returns the number of a policy, and its name if it has one.

@@ -1,9 +1,20 @@
 //! Strings of characters.
 use bcder::Tag;
+use bcder::string::{CharSet, RestrictedString};
+use cli::shown::Shown;
 use std::alloc::{AllocError, Global};
 
+/// Returns the characters of a string, as a terminal can show them.
+pub(crate) fn shown<C: CharSet>(
+    alloc: Global,
+    string: &RestrictedString<C>,
+) -> Result<String, AllocError> {
+    let text = format!(in alloc; "{string}")?;
+    format!(in alloc; "{}", Shown(text.as_str()))
+}
+
 /// Returns each octet as the character of Latin-1.
-fn latin(alloc: Global, octets: &[u8]) -> Result<String, AllocError> {
+pub(crate) fn latin(alloc: Global, octets: &[u8]) -> Result<String, AllocError> {
     let mut text = String::new(alloc);
     for octet in octets {
         text.push(char::from(*octet))?;

@@ -1,5 +1,9 @@
 //! Keys that a sender and a recipient agree upon (RFC 5652, section 6.2.2).
-ghost use Rattle.std.specs.Prelude.{refl};
+ghost use Rattle.std.proofs.Common.{inl, rules};
+ghost use Rattle.std.specs.Prelude.{⊤, refl, true};
+ghost use Rattle.asn1.specs.Choices.{either_tagged};
+ghost use Rattle.asn1.specs.Markers.{context_tagged};
+ghost use Rattle.asn1.specs.Tags.{only_tagged, sequence_tagged};
 ghost use Rattle.asn1.specs.declared.choice.Choice2.TheVariants.{One, Two};
 
 use crate::{IssuerAndSerialNumber, KeyAgreeRecipientIdentifier};
@@ -169,7 +173,7 @@ type OriginatorIdentifierOrKeyParts = Choice2<
 impl Parts for OriginatorIdentifierOrKey {
     type As = OriginatorIdentifierOrKeyParts;
 
-    type Tags = OriginatorIdentifierOrKeyParts;
+    type Tags = OriginatorIdentifierOrKeyTags;
 
     const NAME: &'static str = "OriginatorIdentifierOrKey";
 
@@ -378,4 +382,39 @@ impl EncodeParts for RecipientEncryptedKey {
     }
 
     ghost made = { λ v. (record { rid = v.0; encrypted_key = v.1 }, refl) };
+}
+
+/// The tags of a [`OriginatorIdentifierOrKey`], as a type without values.
+///
+/// With it, a proof about a type that holds one doesn't unfold the types of its alternatives.
+#[derive(Clone, Copy, Debug, Drop)]
+pub struct OriginatorIdentifierOrKeyTags;
+
+impl Type for OriginatorIdentifierOrKeyTags {
+    ghost TAG = { ⟦<OriginatorIdentifierOrKeyParts as Type>⟧.TAG };
+
+    #[inline(always)]
+    fn tag() -> Tag {
+        <OriginatorIdentifierOrKeyParts>::tag()
+    }
+
+    ghost expects = { ⟦<OriginatorIdentifierOrKeyParts as Type>⟧.expects };
+
+    fn expect<P: Trace>(path: &mut P) {
+        <OriginatorIdentifierOrKeyParts>::expect(path);
+    }
+
+    ghost tags = { ⟦<OriginatorIdentifierOrKeyParts as Type>⟧.tags };
+
+    ghost Key = { ⊤ };
+
+    ghost key = { λ _. tt };
+
+    ghost means = { λ _ _ _. ⊥ };
+
+    fn values_are_one() {}
+
+    ghost tagged = { inl refl };
+
+    ghost value_tags = { either_tagged (only_tagged sequence_tagged) (either_tagged (only_tagged (context_tagged {n = 0} (Prim.search rules))) (only_tagged (context_tagged {n = 1} (Prim.search rules)))) };
 }

@@ -1,5 +1,9 @@
 //! The key of an encrypted message for one recipient (RFC 5652, section 6.2).
-ghost use Rattle.std.specs.Prelude.{refl};
+ghost use Rattle.std.proofs.Common.{inl, rules};
+ghost use Rattle.std.specs.Prelude.{⊤, refl, true};
+ghost use Rattle.asn1.specs.Choices.{either_tagged};
+ghost use Rattle.asn1.specs.Markers.{context_tagged};
+ghost use Rattle.asn1.specs.Tags.{only_tagged, sequence_tagged};
 ghost use Rattle.asn1.specs.declared.choice.Choice2.TheVariants.{One, Two};
 
 use crate::{KekRecipientInfo, KeyAgreeRecipientInfo, SignerIdentifier};
@@ -56,7 +60,7 @@ type RecipientInfoParts = Choice2<
 impl Parts for RecipientInfo {
     type As = RecipientInfoParts;
 
-    type Tags = RecipientInfoParts;
+    type Tags = RecipientInfoTags;
 
     const NAME: &'static str = "RecipientInfo";
 
@@ -428,4 +432,39 @@ impl EncodeParts for OtherRecipientInfo {
     }
 
     ghost made = { λ v. (record { ori_type = v.0; ori_value = v.1 }, refl) };
+}
+
+/// The tags of a [`RecipientInfo`], as a type without values.
+///
+/// With it, a proof about a type that holds one doesn't unfold the types of its alternatives.
+#[derive(Clone, Copy, Debug, Drop)]
+pub struct RecipientInfoTags;
+
+impl Type for RecipientInfoTags {
+    ghost TAG = { ⟦<RecipientInfoParts as Type>⟧.TAG };
+
+    #[inline(always)]
+    fn tag() -> Tag {
+        <RecipientInfoParts>::tag()
+    }
+
+    ghost expects = { ⟦<RecipientInfoParts as Type>⟧.expects };
+
+    fn expect<P: Trace>(path: &mut P) {
+        <RecipientInfoParts>::expect(path);
+    }
+
+    ghost tags = { ⟦<RecipientInfoParts as Type>⟧.tags };
+
+    ghost Key = { ⊤ };
+
+    ghost key = { λ _. tt };
+
+    ghost means = { λ _ _ _. ⊥ };
+
+    fn values_are_one() {}
+
+    ghost tagged = { inl refl };
+
+    ghost value_tags = { either_tagged (only_tagged sequence_tagged) (either_tagged (only_tagged (context_tagged {n = 1} (Prim.search rules))) (either_tagged (only_tagged (context_tagged {n = 2} (Prim.search rules))) (either_tagged (only_tagged (context_tagged {n = 3} (Prim.search rules))) (only_tagged (context_tagged {n = 4} (Prim.search rules)))))) };
 }

@@ -1,5 +1,9 @@
 //! Which key a recipient has (RFC 5652, section 6.2.2).
-ghost use Rattle.std.specs.Prelude.{refl};
+ghost use Rattle.std.proofs.Common.{inl, rules};
+ghost use Rattle.std.specs.Prelude.{⊤, refl, true};
+ghost use Rattle.asn1.specs.Choices.{either_tagged};
+ghost use Rattle.asn1.specs.Markers.{context_tagged};
+ghost use Rattle.asn1.specs.Tags.{only_tagged, sequence_tagged};
 ghost use Rattle.asn1.specs.declared.choice.Choice2.TheVariants.{One, Two};
 
 use crate::{IssuerAndSerialNumber, OtherKeyAttribute};
@@ -36,7 +40,7 @@ type KeyAgreeRecipientIdentifierParts = Choice2<
 impl Parts for KeyAgreeRecipientIdentifier {
     type As = KeyAgreeRecipientIdentifierParts;
 
-    type Tags = KeyAgreeRecipientIdentifierParts;
+    type Tags = KeyAgreeRecipientIdentifierTags;
 
     const NAME: &'static str = "KeyAgreeRecipientIdentifier";
 
@@ -176,4 +180,39 @@ impl EncodeParts for RecipientKeyIdentifier {
     }
 
     ghost made = { λ v. (record { subject_key_identifier = v.0; date = v.1; other = v.2 }, refl) };
+}
+
+/// The tags of a [`KeyAgreeRecipientIdentifier`], as a type without values.
+///
+/// With it, a proof about a type that holds one doesn't unfold the types of its alternatives.
+#[derive(Clone, Copy, Debug, Drop)]
+pub struct KeyAgreeRecipientIdentifierTags;
+
+impl Type for KeyAgreeRecipientIdentifierTags {
+    ghost TAG = { ⟦<KeyAgreeRecipientIdentifierParts as Type>⟧.TAG };
+
+    #[inline(always)]
+    fn tag() -> Tag {
+        <KeyAgreeRecipientIdentifierParts>::tag()
+    }
+
+    ghost expects = { ⟦<KeyAgreeRecipientIdentifierParts as Type>⟧.expects };
+
+    fn expect<P: Trace>(path: &mut P) {
+        <KeyAgreeRecipientIdentifierParts>::expect(path);
+    }
+
+    ghost tags = { ⟦<KeyAgreeRecipientIdentifierParts as Type>⟧.tags };
+
+    ghost Key = { ⊤ };
+
+    ghost key = { λ _. tt };
+
+    ghost means = { λ _ _ _. ⊥ };
+
+    fn values_are_one() {}
+
+    ghost tagged = { inl refl };
+
+    ghost value_tags = { either_tagged (only_tagged sequence_tagged) (only_tagged (context_tagged {n = 0} (Prim.search rules))) };
 }

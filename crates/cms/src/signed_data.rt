@@ -1,5 +1,9 @@
 //! Signed messages (RFC 5652, section 5).
-ghost use Rattle.std.specs.Prelude.{refl};
+ghost use Rattle.std.proofs.Common.{inl, rules};
+ghost use Rattle.std.specs.Prelude.{⊤, refl, true};
+ghost use Rattle.asn1.specs.Choices.{either_tagged};
+ghost use Rattle.asn1.specs.Markers.{context_tagged};
+ghost use Rattle.asn1.specs.Tags.{only_tagged, sequence_tagged};
 ghost use Rattle.asn1.specs.declared.choice.Choice2.TheVariants.{One, Two};
 
 use crate::EncapsulatedContentInfo;
@@ -339,7 +343,7 @@ type SignerIdentifierParts = Choice2<IssuerAndSerialNumber, Implicit<Context<0>,
 impl Parts for SignerIdentifier {
     type As = SignerIdentifierParts;
 
-    type Tags = SignerIdentifierParts;
+    type Tags = SignerIdentifierTags;
 
     const NAME: &'static str = "SignerIdentifier";
 
@@ -465,4 +469,39 @@ impl EncodeParts for IssuerAndSerialNumber {
     }
 
     ghost made = { λ v. (record { issuer = v.0; serial_number = v.1 }, refl) };
+}
+
+/// The tags of a [`SignerIdentifier`], as a type without values.
+///
+/// With it, a proof about a type that holds one doesn't unfold the types of its alternatives.
+#[derive(Clone, Copy, Debug, Drop)]
+pub struct SignerIdentifierTags;
+
+impl Type for SignerIdentifierTags {
+    ghost TAG = { ⟦<SignerIdentifierParts as Type>⟧.TAG };
+
+    #[inline(always)]
+    fn tag() -> Tag {
+        <SignerIdentifierParts>::tag()
+    }
+
+    ghost expects = { ⟦<SignerIdentifierParts as Type>⟧.expects };
+
+    fn expect<P: Trace>(path: &mut P) {
+        <SignerIdentifierParts>::expect(path);
+    }
+
+    ghost tags = { ⟦<SignerIdentifierParts as Type>⟧.tags };
+
+    ghost Key = { ⊤ };
+
+    ghost key = { λ _. tt };
+
+    ghost means = { λ _ _ _. ⊥ };
+
+    fn values_are_one() {}
+
+    ghost tagged = { inl refl };
+
+    ghost value_tags = { either_tagged (only_tagged sequence_tagged) (only_tagged (context_tagged {n = 0} (Prim.search rules))) };
 }

@@ -1,6 +1,10 @@
 //! Values of extensions.
 use crate::structures::{Tallies, compare};
 use anyhow::Error;
+use distribution_points::{CrlDistributionPoints, IssuingDistributionPoint};
+use extensions::{
+    AuthorityInfoAccess, AuthorityKeyIdentifier, DisplayText, NameConstraints, UserNotice,
+};
 use pkix::{KeyUsage, ReasonCode, SubjectDirectoryAttributes};
 use std::alloc::Global;
 
@@ -13,6 +17,19 @@ pub fn compare_extension_value(
     tallies: &mut Tallies,
 ) -> Result<(), Error> {
     match kind {
+        "AuthorityKeyIdentifier" => {
+            compare::<AuthorityKeyIdentifier>(alloc, octets, is_one, tallies)
+        }
+        "UserNotice" => compare::<UserNotice>(alloc, octets, is_one, tallies),
+        "DisplayText" => compare::<DisplayText>(alloc, octets, is_one, tallies),
+        "CRLDistributionPoints" => compare::<CrlDistributionPoints>(alloc, octets, is_one, tallies),
+        "IssuingDistributionPoint" => {
+            compare::<IssuingDistributionPoint>(alloc, octets, is_one, tallies)
+        }
+        "AuthorityInfoAccessSyntax" => {
+            compare::<AuthorityInfoAccess>(alloc, octets, is_one, tallies)
+        }
+        "NameConstraints" => compare::<NameConstraints>(alloc, octets, is_one, tallies),
         "KeyUsage" => compare::<KeyUsage>(alloc, octets, is_one, tallies),
         "CRLReason" => compare::<ReasonCode>(alloc, octets, is_one, tallies),
         "SubjectDirectoryAttributes" => {

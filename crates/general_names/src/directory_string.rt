@@ -1,5 +1,10 @@
 //! Text in names.
-ghost use Rattle.std.specs.Prelude.{refl};
+ghost use Rattle.std.proofs.Common.{inl};
+ghost use Rattle.std.specs.Prelude.{⊤, refl};
+ghost use Rattle.asn1.specs.CharacterLaws.{bmp_string_tagged, teletex_string_tagged};
+ghost use Rattle.asn1.specs.CharacterLaws.{universal_string_tagged};
+ghost use Rattle.asn1.specs.Choices.{either_tagged};
+ghost use Rattle.asn1.specs.Tags.{only_tagged, printable_string_tagged, utf8_string_tagged};
 ghost use Rattle.asn1.specs.declared.choice.Choice2.TheVariants.{One, Two};
 
 use crate::{BmpText, PrintableText, UniversalText, Utf8Text};
@@ -45,7 +50,7 @@ type DirectoryStringParts = Choice2<
 impl Parts for DirectoryString {
     type As = DirectoryStringParts;
 
-    type Tags = DirectoryStringParts;
+    type Tags = DirectoryStringTags;
 
     const NAME: &'static str = "DirectoryString";
 
@@ -121,4 +126,43 @@ impl EncodeParts for DirectoryString {
       | Two (Two (Two (One x))) ↦ (string.Utf8String x, refl)
       | Two (Two (Two (Two x))) ↦ (string.BmpString x, refl)
     ] };
+}
+
+/// The tags of a [`DirectoryString`], as a type without values.
+///
+/// With it, a proof about a type that holds such a string doesn't unfold the types of its
+/// alternatives.
+#[derive(Clone, Copy, Debug, Drop)]
+pub struct DirectoryStringTags;
+
+impl Type for DirectoryStringTags {
+    ghost TAG = { ⟦<DirectoryStringParts as Type>⟧.TAG };
+
+    #[inline(always)]
+    fn tag() -> Tag {
+        <DirectoryStringParts>::tag()
+    }
+
+    ghost expects = { ⟦<DirectoryStringParts as Type>⟧.expects };
+
+    fn expect<P: Trace>(path: &mut P) {
+        <DirectoryStringParts>::expect(path);
+    }
+
+    ghost tags = { ⟦<DirectoryStringParts as Type>⟧.tags };
+
+    ghost Key = { ⊤ };
+
+    ghost key = { λ _. tt };
+
+    ghost means = { λ _ _ _. ⊥ };
+
+    fn values_are_one() {}
+
+    ghost tagged = { inl refl };
+
+    ghost value_tags = { either_tagged (only_tagged teletex_string_tagged)
+        (either_tagged (only_tagged printable_string_tagged)
+        (either_tagged (only_tagged universal_string_tagged)
+        (either_tagged (only_tagged utf8_string_tagged) (only_tagged bmp_string_tagged)))) };
 }

@@ -1,6 +1,6 @@
 //! Names of other kinds: of hosts, mailboxes and directories.
 ghost use Rattle.std.proofs.Common.{inl, rules};
-ghost use Rattle.std.specs.Prelude.{refl, true};
+ghost use Rattle.std.specs.Prelude.{⊤, refl, true};
 ghost use Rattle.bcder.specs.laws.Meanings.{constructed_lawful, primitive_lawful, ExactlyOctets_lawful};
 ghost use Rattle.bcder.specs.laws.StringMeanings.{StringMeans_lawful};
 ghost use Rattle.asn1.specs.Choices.{either_tagged};
@@ -111,7 +111,7 @@ type LaterNameParts = Choice2<
 impl Parts for GeneralName {
     type As = GeneralNameParts;
 
-    type Tags = GeneralNameParts;
+    type Tags = GeneralNameTags;
 
     const NAME: &'static str = "GeneralName";
 
@@ -209,6 +209,49 @@ impl EncodeParts for GeneralName {
       | Two (Two (Two (Two (Two (Two (Two (One x))))))) ↦ (name.IpAddress x, refl)
       | Two (Two (Two (Two (Two (Two (Two (Two x))))))) ↦ (name.RegisteredId x, refl)
     ] };
+}
+
+/// The tags of a [`GeneralName`], as a type without values.
+///
+/// With it, a proof about a type that holds names doesn't unfold the types of their alternatives.
+#[derive(Clone, Copy, Debug, Drop)]
+pub struct GeneralNameTags;
+
+impl Type for GeneralNameTags {
+    ghost TAG = { ⟦<GeneralNameParts as Type>⟧.TAG };
+
+    #[inline(always)]
+    fn tag() -> Tag {
+        <GeneralNameParts>::tag()
+    }
+
+    ghost expects = { ⟦<GeneralNameParts as Type>⟧.expects };
+
+    fn expect<P: Trace>(path: &mut P) {
+        <GeneralNameParts>::expect(path);
+    }
+
+    ghost tags = { ⟦<GeneralNameParts as Type>⟧.tags };
+
+    ghost Key = { ⊤ };
+
+    ghost key = { λ _. tt };
+
+    ghost means = { λ _ _ _. ⊥ };
+
+    fn values_are_one() {}
+
+    ghost tagged = { inl refl };
+
+    ghost value_tags = { either_tagged (only_tagged (context_tagged {n = 0} (Prim.search rules)))
+        (either_tagged (only_tagged (context_tagged {n = 1} (Prim.search rules)))
+        (either_tagged (only_tagged (context_tagged {n = 2} (Prim.search rules)))
+        (either_tagged (only_tagged (context_tagged {n = 3} (Prim.search rules)))
+        (either_tagged (only_tagged (context_tagged {n = 4} (Prim.search rules)))
+        (either_tagged (only_tagged (context_tagged {n = 5} (Prim.search rules)))
+        (either_tagged (only_tagged (context_tagged {n = 6} (Prim.search rules)))
+        (either_tagged (only_tagged (context_tagged {n = 7} (Prim.search rules)))
+        (only_tagged (context_tagged {n = 8} (Prim.search rules)))))))))) };
 }
 
 /// The last five alternatives of a [`GeneralName`].

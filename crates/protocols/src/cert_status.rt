@@ -1,5 +1,9 @@
 //! Whether certificates are revoked (RFC 6960, section 4.2.1).
-ghost use Rattle.std.specs.Prelude.{false, refl};
+ghost use Rattle.std.proofs.Common.{inl, rules};
+ghost use Rattle.std.specs.Prelude.{⊤, false, refl, true};
+ghost use Rattle.asn1.specs.Choices.{either_tagged};
+ghost use Rattle.asn1.specs.Markers.{context_tagged};
+ghost use Rattle.asn1.specs.Tags.{only_tagged};
 ghost use Rattle.asn1.specs.declared.choice.Choice2.TheVariants.{One, Two};
 
 use asn1::{
@@ -40,7 +44,7 @@ type CertStatusParts = Choice2<
 impl Parts for CertStatus {
     type As = CertStatusParts;
 
-    type Tags = CertStatusParts;
+    type Tags = CertStatusTags;
 
     const NAME: &'static str = "CertStatus";
 
@@ -177,4 +181,39 @@ impl EncodeParts for RevokedInfo {
     }
 
     ghost made = { λ v. (record { revocation_time = v.0; revocation_reason = v.1 }, refl) };
+}
+
+/// The tags of a [`CertStatus`], as a type without values.
+///
+/// With it, a proof about a type that holds one doesn't unfold the types of its alternatives.
+#[derive(Clone, Copy, Debug, Drop)]
+pub struct CertStatusTags;
+
+impl Type for CertStatusTags {
+    ghost TAG = { ⟦<CertStatusParts as Type>⟧.TAG };
+
+    #[inline(always)]
+    fn tag() -> Tag {
+        <CertStatusParts>::tag()
+    }
+
+    ghost expects = { ⟦<CertStatusParts as Type>⟧.expects };
+
+    fn expect<P: Trace>(path: &mut P) {
+        <CertStatusParts>::expect(path);
+    }
+
+    ghost tags = { ⟦<CertStatusParts as Type>⟧.tags };
+
+    ghost Key = { ⊤ };
+
+    ghost key = { λ _. tt };
+
+    ghost means = { λ _ _ _. ⊥ };
+
+    fn values_are_one() {}
+
+    ghost tagged = { inl refl };
+
+    ghost value_tags = { either_tagged (only_tagged (context_tagged {n = 0} (Prim.search rules))) (either_tagged (only_tagged (context_tagged {n = 1} (Prim.search rules))) (only_tagged (context_tagged {n = 2} (Prim.search rules)))) };
 }

@@ -1,5 +1,9 @@
 //! Responses that say whether certificates are revoked (RFC 6960, section 4.2.1).
-ghost use Rattle.std.specs.Prelude.{pos, refl};
+ghost use Rattle.std.proofs.Common.{inl, rules};
+ghost use Rattle.std.specs.Prelude.{⊤, pos, refl, true};
+ghost use Rattle.asn1.specs.Choices.{either_tagged};
+ghost use Rattle.asn1.specs.Markers.{context_tagged};
+ghost use Rattle.asn1.specs.Tags.{only_tagged};
 ghost use Rattle.asn1.specs.declared.choice.Choice2.TheVariants.{One, Two};
 
 use crate::{CertId, CertStatus};
@@ -481,7 +485,7 @@ type ResponderIdParts = Choice2<Explicit<Context<1>, Name>, Explicit<Context<2>,
 impl Parts for ResponderId {
     type As = ResponderIdParts;
 
-    type Tags = ResponderIdParts;
+    type Tags = ResponderIdTags;
 
     const NAME: &'static str = "ResponderId";
 
@@ -651,4 +655,39 @@ impl EncodeParts for SingleResponse {
       },
       refl,
     ) };
+}
+
+/// The tags of a [`ResponderId`], as a type without values.
+///
+/// With it, a proof about a type that holds one doesn't unfold the types of its alternatives.
+#[derive(Clone, Copy, Debug, Drop)]
+pub struct ResponderIdTags;
+
+impl Type for ResponderIdTags {
+    ghost TAG = { ⟦<ResponderIdParts as Type>⟧.TAG };
+
+    #[inline(always)]
+    fn tag() -> Tag {
+        <ResponderIdParts>::tag()
+    }
+
+    ghost expects = { ⟦<ResponderIdParts as Type>⟧.expects };
+
+    fn expect<P: Trace>(path: &mut P) {
+        <ResponderIdParts>::expect(path);
+    }
+
+    ghost tags = { ⟦<ResponderIdParts as Type>⟧.tags };
+
+    ghost Key = { ⊤ };
+
+    ghost key = { λ _. tt };
+
+    ghost means = { λ _ _ _. ⊥ };
+
+    fn values_are_one() {}
+
+    ghost tagged = { inl refl };
+
+    ghost value_tags = { either_tagged (only_tagged (context_tagged {n = 1} (Prim.search rules))) (only_tagged (context_tagged {n = 2} (Prim.search rules))) };
 }
