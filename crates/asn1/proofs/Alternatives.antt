@@ -7,13 +7,14 @@ use Rattle.bcder.specs.x690.Identifier.{Tag}
 use Rattle.bcder.specs.x690.Tree.{Tree}
 use Rattle.bcder.specs.x690.Encoding.{IsHeader, IsEncoding}
 use Rattle.bcder.specs.declared.decode.content.State.TheVariants.{Ended, Failed}
-use Rattle.bcder.specs.calls.CapturingValues.{BeginsDeep, LeadDeep}
+use Rattle.bcder.specs.calls.Capturing.{BeginsDeep}
+use Rattle.bcder.specs.calls.Capturing.{LeadDeep}
 use Rattle.bcder.specs.declared.decode.content.Kind.TheVariants as kind
-use Rattle.bcder.specs.calls.Begins.{BeginsOther}
+use Rattle.bcder.specs.calls.Violations.{BeginsOther}
 use Rattle.bcder.specs.calls.Content.{Reading, Octets, Moves, Falls, Asked, any, tagged, HasHeader, values}
 use Rattle.bcder.specs.calls.Content.{HasMarker, IsAbsent, IsElsewhere, none_left, other, marker}
 use Rattle.bcder.specs.calls.Content.{EndsBefore, IsDone, IsUsedUp, of_octets, of_definite, of_indefinite, of_unbounded}
-use Rattle.bcder.specs.calls.Takes.{HasNone}
+use Rattle.bcder.specs.calls.Calls.{HasNone}
 use Rattle.bcder.specs.calls.Walking.{HasValue}
 use Rattle.bcder.specs.calls.Valued.{tag_of}
 use Rattle.bcder.proofs.Lemmas.{IsWithinOwed, as_many_are_no_fewer, grew_in_between, header_is_there, header_of_tagged, done_is_at_its_end}

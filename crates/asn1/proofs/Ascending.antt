@@ -5,7 +5,7 @@ use Rattle.std.proofs.lemmas.List.Sorted.{IsPermutation-refl}
 use Rattle.bcder.specs.declared.mode.Mode.{Mode}
 use Rattle.bcder.specs.x690.Identifier.{Tag}
 use Rattle.bcder.specs.x690.Tree.{Tree, Trees, no_trees, ◌∷ₜ◌, ◌+++◌}
-use Rattle.bcder.specs.calls.Joined.{Then, NoValues, Joined, nothing}
+use Rattle.bcder.specs.calls.Meaning.{Then, NoValues, Joined, nothing}
 use Rattle.bcder.specs.calls.Meaning.{Encoded, Meaning}
 use Rattle.bcder.specs.calls.Valued.{tag_of}
 use Rattle.asn1.specs.Sets.{Rise, each, place, place_in, AreOrdered}

@@ -1,11 +1,11 @@
 -- Bit strings that are read.
 use Rattle.std.proofs.Common.{◌≡◌, ℕ, List, [], ◌∷◌, refl, inl, inr}
 use Rattle.std.specs.Prelude.{◌⊎◌}
+use Rattle.bcder.specs.calls.Readers.{NoBits}
 use Rattle.bcder.specs.declared.mode.Mode.{Mode}
 use Rattle.bcder.specs.declared.decode.error.DecodeError.{DecodeError}
 use Rattle.bcder.specs.x690.BitString.{Bits, BitShape, IsBitString}
 use Rattle.bcder.specs.calls.Cause.{cause_of, of_memory}
-use Rattle.bcder.specs.calls.ReadBits.{NoBits}
 use Rattle.bcder.specs.calls.Readers.{MeanNothing}
 
 some_bits : (mode : Mode) (v : List ℕ) → BitShape mode v → (x : Bits) × IsBitString mode v x

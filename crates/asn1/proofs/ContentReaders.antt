@@ -15,7 +15,7 @@ use Rattle.bcder.specs.calls.Content.{Reading, Octets, Moves, IsUsedUp, tagged}
 use Rattle.bcder.specs.calls.Readers.{Reads, MeanNothing, RefusesReading}
 use Rattle.bcder.specs.calls.Readers as readers
 use Rattle.bcder.specs.calls.Stream.{Stream, IsSound}
-use Rattle.bcder.specs.calls.Takes.{TakesNext}
+use Rattle.bcder.specs.calls.Calls.{TakesNext}
 use Rattle.bcder.specs.calls.Valued.{HoldsNone, ReadsAny, ReadsContent, RefusesToRead}
 use Rattle.bcder.specs.calls.Valued as valued
 use Rattle.bcder.specs.calls.Views.{of_constructed, of_content, of_primitive}

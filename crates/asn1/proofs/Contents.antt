@@ -5,11 +5,11 @@ use Rattle.bcder.specs.declared.decode.error.DecodeError.{DecodeError}
 use Rattle.bcder.specs.x690.Identifier.{Tag}
 use Rattle.bcder.specs.x690.Tree.{Tree, primitive, constructed}
 use Rattle.bcder.specs.calls.Valued.{HasNoTree, TakesTree}
-use Rattle.bcder.specs.calls.Takes.{NextBy}
+use Rattle.bcder.specs.calls.Calls.{NextBy}
 use Rattle.bcder.specs.calls.Cause.{cause_of, of_memory}
 use Rattle.bcder.specs.calls.Content.{tagged, Reading}
-use Rattle.bcder.specs.calls.Typed.{InPrimitive, RefusesAs}
-use Rattle.bcder.specs.calls.Refusals as refusals
+use Rattle.bcder.specs.calls.Valued.{InPrimitive, RefusesAs}
+use Rattle.bcder.specs.calls.Content as refusals
 use Rattle.bcder.specs.calls.Readers.{MeanNothing}
 use Rattle.bcder.specs.calls.Walking.{HasValue}
 use Rattle.bcder.proofs.Lemmas.{IsWithinOwed, value_once, header_is_there, header_of_tagged}
@@ -68,14 +68,14 @@ module _ {T X : Type 0} (tag : Tag) (Means : List ℕ → T → Type 0) (lacks :
   }
   next_leaf (Ok None) n = record {
     value = tt;
-    none = none_of_one tag c d n.none;
+    none = none_of_one tag c d n.value;
     no_fault = n.no_fault;
     refused = tt;
     failed = tt;
     mode = n.mode;
     marked = n.marked;
   }
-  next_leaf (Err e) n = record { value = tt; none = tt; no_fault = tt; refused = leaf_refused e n.refused; failed = n.failed; mode = n.mode; marked = n.marked }
+  next_leaf (Err e) n = record { value = tt; none = tt; no_fault = tt; refused = leaf_refused e n.refused.1; failed = n.refused.0; mode = n.mode; marked = n.marked }
 
 -- where octets are refused only as they mean nothing
 pub or_nothing : {T X : Type 0} (Means : List ℕ → T → Type 0) (v : List ℕ) (e : DecodeError X) → MeanNothing Means v e → NothingOrLacking false Means v e

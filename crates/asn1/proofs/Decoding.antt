@@ -19,8 +19,7 @@ use Rattle.bcder.specs.calls.Walking.{HasValues, ClosesBefore}
 use Rattle.bcder.specs.calls.Valued.{HoldsValues}
 use Rattle.bcder.specs.calls.Decoding.{IsAllOf, Decodes, RefusesDecode, RefusesOn}
 use Rattle.bcder.specs.calls.Decoding as decoding
-use Rattle.bcder.specs.calls.DecodingAll.{DecodesWhole, RefusesWhole, RefusesRest}
-use Rattle.bcder.specs.calls.DecodingAll as all
+use Rattle.bcder.specs.calls.Decoding.{DecodesWhole, RefusesWhole, RefusesRest}
 use Rattle.bcder.proofs.Lemmas.{open_has_not_ended, open_has_not_failed, as_many_are_no_fewer, grew_in_between}
 use Rattle.asn1.specs.Types.{IsMember, TakesFields, HoldsNoFields, RefusesFields, ReadsFields}
 use Rattle.asn1.specs.Types as types
@@ -144,13 +143,13 @@ module _ {C T X : Type 0} (view : C → Reading) (post : MutBor C → Result T (
         decoded.RefusesFieldsOf.broken (failed_not_all mode (Takes mode) s i over j f x (answered_fields i j (Ok x) a over.mode).value) c
 
     decoding_refused : RefusesWhole view post s mode e → RefusesFieldsOf mode (Takes mode) lacks s e
-    decoding_refused (all.RefusesWhole.by_decoding later d) = closure_refused d.handed d.left later d.over d.leaves d.refuses
-    decoding_refused (all.RefusesWhole.by_rest x left later d (all.RefusesRest.octets_left n a p f)) =
+    decoding_refused (decoding.RefusesWhole.by_decoding later d) = closure_refused d.handed d.left later d.over d.leaves d.refuses
+    decoding_refused (decoding.RefusesWhole.by_rest x left later d (decoding.RefusesRest.octets_left n a p f)) =
         let r = answered_fields d.handed d.left (Ok x) d.answered d.over.mode in
         let same = sym (ap (λ (z : Stream). z.rest) d.leaves) in
         decoded.RefusesFieldsOf.broken
         (not_all mode (Takes mode) s d.handed d.over d.left d.moves d.usable x r.value (λ z. n (same ∙ z))) a
-    decoding_refused (all.RefusesWhole.by_rest x left later d (all.RefusesRest.source_failed c g)) =
+    decoding_refused (decoding.RefusesWhole.by_rest x left later d (decoding.RefusesRest.source_failed c g)) =
         let r = answered_fields d.handed d.left (Ok x) d.answered d.over.mode in
         let faults = λ (z : Stream). z.faults in
         let same = sym (ap faults d.leaves) ∙ r.no_fault ∙ ap faults d.over.stream in

@@ -6,7 +6,7 @@ use Rattle.bcder.specs.declared.encode.error.EncodeError.{EncodeError}
 use Rattle.bcder.specs.declared.encode.error.WriteError.{WriteError}
 use Rattle.bcder.specs.x690.Identifier.{Tag}
 use Rattle.bcder.specs.x690.Tree.{Tree, Trees, ◌+++◌}
-use Rattle.bcder.specs.calls.Joined.{nothing}
+use Rattle.bcder.specs.calls.Meaning.{nothing}
 use Rattle.bcder.specs.calls.Meaning.{Encoded, Meaning}
 use Rattle.bcder.specs.calls.Encoders.{SizeOfValues, Writes}
 use Rattle.asn1.specs.Types.{IsMember, BeginWithout}
@@ -25,14 +25,18 @@ module _ (P : Type 0) (M : Meaning → Type 0) (L : Type 0) where
   size_some n (Err e) s = record { meant = λ h. inr (n, s.meant h); lacking = s.lacking }
 
   pub writes_none : (old : Option (List ℕ)) → P → Writes (λ (e : Encoded). e.octets) (WritesUnless P M) L old old (Ok tt)
-  writes_none old p = inl (nothing, inl (p, refl), record { done = appends_none old })
+  writes_none old p = record { went = inl (nothing, inl (p, refl), record { done = appends_none old }) }
 
   pub writes_some : (old new : Option (List ℕ)) (r : Result (Unit {0}) WriteError) → (P → ⊥) → Writes (λ (e : Encoded). e.octets) M L old new r
       → Writes (λ (e : Encoded). e.octets) (WritesUnless P M) L old new r
-  writes_some old new r n (inl w) = inl (w.0, inr (n, w.1), w.2)
-  writes_some old new r n (inr w) =
-      let r = w.2 in
-      inr (w.0, w.1, record { meant = λ h. inr (n, r.meant h); lacking = r.lacking }, w.3)
+  writes_some old new r n h = record {
+    went = elim h.went [
+      | inl w ↦ inl (w.0, inr (n, w.1), w.2)
+      | inr w ↦
+          let r = w.2 in
+          inr (w.0, w.1, record { meant = λ h. inr (n, r.meant h); lacking = r.lacking }, w.3)
+    ];
+  }
 
 module _ {T K : Type 0} (mode : Mode) (Tags : Tag → Type 0) (Means : Tree → T → Type 0) (key : T → K) (default : K) where
   given_only : (k : K) (ts us vs : Trees) (y : T) → (a : AreTaken (IsMember Tags Means) key k ts us)

@@ -11,7 +11,7 @@ use Rattle.bcder.specs.declared.decode.content.State.TheVariants.{Open}
 use Rattle.bcder.specs.calls.Content.{HasHeader, Reading, Octets, tagged, Moves, EndsBefore}
 use Rattle.bcder.specs.calls.Calls.{Answered, AnswersDone, TakesValue, RefusesFront, RefusesContent, by_closure, unfinished, RefusesEnd, left_failed}
 use Rattle.bcder.specs.calls.Calls.{source_failed, left_open}
-use Rattle.bcder.specs.calls.Takes.{TakesNext, RefusesTake, by_header, by_form, by_content}
+use Rattle.bcder.specs.calls.Calls.{TakesNext, RefusesTake, by_header, by_form, by_content}
 use Rattle.bcder.specs.calls.Walking.{HasValue}
 use Rattle.bcder.specs.calls.Valued.{tag_of, HoldsValues, HoldsTree, ReadsTree, RefusesToRead, ReadsContent, ReadsAny, RefusesTree}
 use Rattle.bcder.specs.calls.Valued as valued
@@ -23,7 +23,7 @@ use Rattle.asn1.specs.Types.{AreInside, Only, TakesFields, HoldsNoFields, Refuse
 use Rattle.asn1.specs.Types as types
 use Rattle.asn1.proofs.Lacking.{header_is_not, end_is_not, fields_lack, next_may}
 use Rattle.asn1.proofs.Reading.{failed_holds_none, none_held_at_end, none_not_inside}
-use Rattle.bcder.specs.calls.Refusals as refusals
+use Rattle.bcder.specs.calls.Content as refusals
 use Rattle.asn1.proofs.Typed.{next_typed, typed_header}
 
 -- ---- a closure that reads fields, and what the take around it does with what it leaves
@@ -261,7 +261,7 @@ module _ {C T X : Type 0} (view : C → Reading) (post : Tag → MutBor C → Re
         by_cause (by_header h m) = stopped (by_header h m)
         by_cause (by_form f a m) =
             next_typed tag (Inside c.mode) c d w (Err e)
-            (record { value = tt; none = tt; no_fault = tt; refused = refused_form e f a; failed = n.failed; mode = n.mode; marked = m })
+            (record { value = tt; no_fault = tt; refused = (n.failed, refused_form e f a); mode = n.mode; marked = m })
         by_cause (by_content f) = elim (whole_front e f) [ inl s ↦ no_memory f s | inr q ↦ stopped (by_content q) ]
 
     take_lacks : (e : DecodeError X) → RefusesTake view post (Some false) (tagged tag) c e d → cause_of e ≡ of_memory → lacks ≡ true

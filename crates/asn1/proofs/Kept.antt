@@ -11,8 +11,8 @@ use Rattle.bcder.specs.laws.Complete.{tree_complete, one_list}
 use Rattle.bcder.specs.laws.Gathered.{AreEncodings-suits}
 use Rattle.bcder.specs.laws.Lists.{AreEncodings-one}
 use Rattle.bcder.specs.calls.Captured.{Kept}
-use Rattle.bcder.specs.calls.CapturingValues.{CapturesValue, CapturesNext, HasValueOrDeep}
-use Rattle.bcder.specs.calls.CapturingValues as capturing
+use Rattle.bcder.specs.calls.Capturing.{CapturesValue, CapturesNext, HasValueOrDeep}
+use Rattle.bcder.specs.calls.Capturing as capturing
 use Rattle.bcder.specs.calls.Content.{any, tagged, Reading, Octets}
 use Rattle.bcder.specs.calls.Gathered.{KeptMeans}
 use Rattle.bcder.specs.calls.Valued.{tag_of}
@@ -23,8 +23,8 @@ use Rattle.asn1.specs.Types as types
 use Rattle.asn1.specs.Keys.{MeansOne, IsMeantOnce}
 use Rattle.asn1.specs.Writing.{IsReadAs}
 use Rattle.bcder.specs.calls.Cause.{cause_of, of_memory}
-use Rattle.bcder.specs.calls.Refusals as refusals
-use Rattle.bcder.specs.calls.Refusals.{Refuses}
+use Rattle.bcder.specs.calls.Content as refusals
+use Rattle.bcder.specs.calls.Content.{Refuses}
 use Rattle.bcder.specs.calls.Walking.{HasNoNext}
 use Rattle.asn1.proofs.Reading.{encoded_tag}
 
@@ -86,14 +86,14 @@ module _ (c d : Reading) (w : IsWithinOwed c) (form : c.kind ≢ Octets) (asked 
   }
   next_kept (Ok None) n = record {
     value = tt;
-    none = at_end (λ t g. g) form n.none;
+    none = at_end (λ t g. g) form n.value;
     no_fault = n.no_fault;
     refused = tt;
     failed = tt;
     mode = n.mode;
     marked = n.marked;
   }
-  next_kept (Err e) n = record { value = tt; none = tt; no_fault = tt; refused = refused e n.refused; failed = n.failed; mode = n.mode; marked = n.marked }
+  next_kept (Err e) n = record { value = tt; none = tt; no_fault = tt; refused = refused e n.refused.1; failed = n.refused.0; mode = n.mode; marked = n.marked }
 
 -- what was captured is one value
 pub one_captured : {c d : Reading} {k : Kept} → CapturesValue c k d → IsOneValue k

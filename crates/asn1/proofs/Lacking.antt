@@ -9,8 +9,8 @@ use Rattle.bcder.specs.calls.Cause.{cause_of, of_memory}
 use Rattle.bcder.specs.calls.Content.{Reading, Asked, NothingThere}
 use Rattle.asn1.specs.Memory.{refusal_is_not, source_is_not}
 use Rattle.asn1.specs.Types.{RefusesFields, RefusesTyped, TakesNextTyped}
-use Rattle.bcder.specs.calls.Refusals.{Refuses}
-use Rattle.bcder.specs.calls.Refusals as refusals
+use Rattle.bcder.specs.calls.Content.{Refuses}
+use Rattle.bcder.specs.calls.Content as refusals
 use Rattle.asn1.specs.Types as types
 
 -- ---- of two

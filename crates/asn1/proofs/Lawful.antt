@@ -18,6 +18,9 @@ module _ (mode : Mode) (M : Meaning → Type 0) (l : IsLawful mode M) (lacks : T
 
   pub written_lawful : (old new : Option (List ℕ)) (r : Result (Unit {0}) WriteError) → Writes (λ (e : Encoded). e.octets) M lacks old new r
       → Writes (λ (e : Encoded). e.octets) (Lawfully mode M) lacks old new r
-  written_lawful old new r (inl w) = inl (w.0, record { is = w.1; law = l }, w.2)
-  written_lawful old new r (inr w) =
-      inr (w.0, w.1, refuses w.0 w.2, w.3)
+  written_lawful old new r h = record {
+    went = elim h.went [
+      | inl w ↦ inl (w.0, record { is = w.1; law = l }, w.2)
+      | inr w ↦ inr (w.0, w.1, refuses w.0 w.2, w.3)
+    ];
+  }

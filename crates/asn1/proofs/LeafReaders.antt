@@ -11,7 +11,7 @@ use Rattle.bcder.specs.calls.Cause.{cause_of, of_memory, IsRefusal}
 use Rattle.bcder.specs.calls.Content.{tagged}
 use Rattle.bcder.specs.calls.Readers.{Reads, MeanNothing, AreNeverRefused}
 use Rattle.bcder.specs.calls.Stream.{Stream, IsSound}
-use Rattle.bcder.specs.calls.Takes.{TakesNext}
+use Rattle.bcder.specs.calls.Calls.{TakesNext}
 use Rattle.bcder.specs.calls.Views.{of_constructed, of_primitive}
 use Rattle.bcder.proofs.Lemmas.{constructed_is_within_owed, next_as, octets_form}
 use Rattle.asn1.specs.Types.{IsLeaf, Only, TakesNextTyped}

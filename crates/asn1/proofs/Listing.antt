@@ -2,7 +2,7 @@
 use Rattle.std.proofs.Common.{◌≡◌, ℕ, List, Option, subst, sym, ap, IsErr, IsErrAnd}
 use Rattle.std.specs.Prelude.{Result, Ok, Err}
 use Rattle.bcder.specs.declared.encode.error.WriteError.{WriteError}
-use Rattle.bcder.specs.calls.Joined.{Then}
+use Rattle.bcder.specs.calls.Meaning.{Then}
 use Rattle.bcder.specs.calls.Meaning.{Encoded, Meaning, IsOne}
 use Rattle.bcder.specs.calls.Encoders.{HasEncoding, Writes, WritesEncoding, WroteOf}
 use Rattle.bcder.proofs.Lemmas.{wrote_what_is_meant, lacks_more, WrittenSoFar, written_one_more, written_not_one_more}

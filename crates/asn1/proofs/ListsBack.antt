@@ -3,7 +3,7 @@ use Rattle.std.proofs.Common.{◌≡◌, List, [], ◌∷◌, suc, arith, length
 use Rattle.std.specs.Prelude.{Ok, All}
 use Rattle.bcder.specs.x690.Identifier.{Tag}
 use Rattle.bcder.specs.x690.Tree.{Tree, Trees, ◌+++◌}
-use Rattle.bcder.specs.calls.Joined.{EachOf, Joined, nothing}
+use Rattle.bcder.specs.calls.Meaning.{EachOf, Joined, nothing}
 use Rattle.bcder.specs.calls.Meaning.{Encoded, Meaning}
 use Rattle.asn1.specs.Types.{IsMember, BeginWithout, AreList}
 use Rattle.asn1.specs.Writing.{IsReadAs, AreTaken, AreReadAs}

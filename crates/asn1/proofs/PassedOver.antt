@@ -5,9 +5,9 @@ use Rattle.bcder.specs.declared.decode.error.DecodeError.{DecodeError}
 use Rattle.bcder.specs.x690.Tree.{Trees, no_trees}
 use Rattle.bcder.specs.calls.Cause.{cause_of}
 use Rattle.bcder.specs.calls.Content.{any, Reading, Octets, Moves, EndsBefore, IsDone}
-use Rattle.bcder.specs.calls.Skipping.{RefusesOne, RefusesSkipAll, by_values}
-use Rattle.bcder.specs.calls.Takes.{NextBy}
-use Rattle.bcder.specs.calls.Skipping as skipping
+use Rattle.bcder.specs.calls.Walking.{RefusesOne, RefusesSkipAll, by_values}
+use Rattle.bcder.specs.calls.Calls.{NextBy}
+use Rattle.bcder.specs.calls.Walking as skipping
 use Rattle.bcder.specs.calls.Valued.{HoldsValues}
 use Rattle.bcder.specs.calls.Walking.{HasValues, PassesValue, AllBy}
 use Rattle.bcder.proofs.Lemmas.{open_has_not_ended, open_has_not_failed, IsWithinOwed, values_after, values_with_one_more}
@@ -15,7 +15,7 @@ use Rattle.bcder.proofs.Lemmas.{no_values_at_the_end, no_trees_at_the_end, done_
 use Rattle.bcder.proofs.Lemmas.{no_values_without_a_first, as_many_are_no_fewer, grew_in_between}
 use Rattle.asn1.specs.Types.{AreAll, TakesFields, RefusesFields, ReadsFields}
 use Rattle.asn1.specs.Types as types
-use Rattle.bcder.specs.calls.Refusals as refusals
+use Rattle.bcder.specs.calls.Content as refusals
 use Rattle.asn1.proofs.Reading.{held_once, failed_holds_none}
 
 -- ---- content at its end
@@ -43,7 +43,7 @@ module _ {T X A : Type 0} (x : T) (c d : Reading) (k : c.kind ≢ Octets) (l : d
   pub none_to_skip : NextBy {T = A} {E = DecodeError X} any (λ i _ j. PassesValue i j) (RefusesOne cause_of) c (Ok None) d
       → ReadsFields AreAll true {X = X} c (Ok x) d
   none_to_skip p = record {
-    value = all_taken c d l x no_trees (end_holds_none c k d.stream.rest p.none.missing.0) p.none.missing.1;
+    value = all_taken c d l x no_trees (end_holds_none c k d.stream.rest p.value.missing.0) p.value.missing.1;
     no_fault = p.no_fault;
     refused = tt;
     mode = p.mode;
@@ -67,7 +67,7 @@ module _ {T X : Type 0} (c d : Reading) (k : c.kind ≢ Octets) (e : DecodeError
   refuses_to_skip {A} p = record {
     value = tt;
     no_fault = tt;
-    refused = refused_one p.refused;
+    refused = refused_one p.refused.1;
     mode = p.mode;
     marked = p.marked;
   }
@@ -89,9 +89,9 @@ module _ {X A : Type 0} (c j d : Reading) (w : IsWithinOwed c) (k : j.kind ≢ O
   pub skipped_all : {T : Type 0} (x : T) → AllBy {T = Unit {0}} {E = DecodeError X} (RefusesSkipAll cause_of) j (Ok tt) d
       → ReadsFields AreAll true {X = X} c (Ok x) d
   skipped_all {T} x q =
-      let h = with_first (q.all p.value.stays) in
+      let h = with_first (q.value.0 p.value.stays) in
       record {
-        value = all_taken c d l x h.0 h.1 q.done;
+        value = all_taken c d l x h.0 h.1 q.value.1;
         no_fault = q.no_fault ∙ p.no_fault;
         refused = tt;
         mode = q.mode ∙ p.mode;
@@ -113,7 +113,7 @@ module _ {X A : Type 0} (c j d : Reading) (w : IsWithinOwed c) (k : j.kind ≢ O
   refuses_behind {T} e q = record {
     value = tt;
     no_fault = tt;
-    refused = refused_behind e q.refused;
+    refused = refused_behind e q.refused.1;
     mode = q.mode ∙ p.mode;
     marked = q.marked ∙ p.marked;
   }

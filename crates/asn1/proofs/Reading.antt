@@ -9,10 +9,10 @@ use Rattle.bcder.specs.x690.Identifier.{Tag, IsValueTag, identifier, end_of_cont
 use Rattle.bcder.specs.x690.Tree.{Tree, primitive, constructed, Trees, no_trees, ◌∷ₜ◌}
 use Rattle.bcder.specs.x690.Encoding.{IsHeader, IsEncoding, AreEncodings, IsFramed}
 use Rattle.bcder.specs.calls.Cause.{IsRefusal}
-use Rattle.bcder.specs.calls.Begins.{BeginsOther}
+use Rattle.bcder.specs.calls.Violations.{BeginsOther}
 use Rattle.bcder.specs.calls.Content.{Reading, Octets, Moves, MovesBy, Whole, Falls, IsAtEnd, of_octets, of_definite, of_indefinite, of_unbounded}
 use Rattle.bcder.specs.calls.Content.{EndsBefore, any, tagged, HasMarker, IsAbsent, IsElsewhere, none_left, other}
-use Rattle.bcder.specs.calls.Takes.{HasNone}
+use Rattle.bcder.specs.calls.Calls.{HasNone}
 use Rattle.bcder.specs.calls.Walking.{HasValue, HasValues, PassesValue, ClosesBefore}
 use Rattle.bcder.specs.calls.Valued.{HoldsValues, tag_of}
 use Rattle.bcder.specs.laws.Complete.{only_at_front}

@@ -6,11 +6,11 @@ use Rattle.bcder.specs.declared.mode.Mode.{Mode}
 use Rattle.bcder.specs.declared.encode.error.EncodeError.TheVariants.{LengthTooLarge}
 use Rattle.bcder.specs.x690.Identifier.{Tag}
 use Rattle.bcder.specs.x690.Tree.{Tree, primitive, constructed, Trees, no_trees, ◌∷ₜ◌, ◌+++◌}
-use Rattle.bcder.specs.calls.Joined.{Then, NoValues, Joined, join, nothing}
+use Rattle.bcder.specs.calls.Meaning.{Then, NoValues, Joined, join, nothing}
 use Rattle.bcder.specs.calls.Valued.{tag_of}
 use Rattle.bcder.specs.calls.Meaning.{Encoded, Meaning, ContentsMeaning, ValueMeans, primitive_encoded, primitive_meaning, constructed_encoded}
 use Rattle.bcder.specs.calls.Meaning.{constructed_meaning, fits_enclosed, enclosed_refusal}
-use Rattle.bcder.specs.calls.ReadBack.{IsReadBack}
+use Rattle.bcder.specs.calls.Written.{IsReadBack}
 use Rattle.asn1.specs.Types.{AreAll, Only, IsLeaf, AreInside, IsMember, BeginWithout, IsOptional, Pair}
 use Rattle.asn1.specs.Writing.{IsWritten, IsReadAs, AreTaken, AreReadAs, WritesOptional}
 use Rattle.asn1.specs.Keys.{option_key}

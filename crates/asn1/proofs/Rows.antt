@@ -2,7 +2,7 @@
 use Rattle.std.proofs.Common.{◌≡◌, ◌<◌, ◌^◌, length, append-nil, length-append, refl, ap, ◌∙◌, arith}
 use Rattle.std.specs.Prelude.{Ok}
 use Rattle.bcder.specs.x690.Tree.{Trees, ◌+++◌}
-use Rattle.bcder.specs.calls.Joined.{nothing, join}
+use Rattle.bcder.specs.calls.Meaning.{nothing, join}
 use Rattle.bcder.specs.calls.Meaning.{Encoded, Meaning}
 use Rattle.asn1.specs.Writing.{AreTaken}
 use Rattle.asn1.proofs.ReadingBack.{and_none, fields_back_seen}

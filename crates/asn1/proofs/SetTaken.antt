@@ -11,9 +11,9 @@ use Rattle.bcder.specs.x690.Encoding.{IsHeader, Header, IsEncoding, AreEncodings
 use Rattle.bcder.specs.calls.Captured.{Kept}
 use Rattle.bcder.specs.calls.Cause.{cause_of, IsOfContent, IsRefusal}
 use Rattle.bcder.specs.calls.Content.{Reading}
-use Rattle.bcder.specs.calls.ContentsLen.{length_of}
+use Rattle.bcder.specs.calls.Content.{length_of}
 use Rattle.bcder.specs.calls.Meaning.{Encoded, Meaning}
-use Rattle.bcder.specs.calls.Joined.{EachOf, Joined}
+use Rattle.bcder.specs.calls.Meaning.{EachOf, Joined}
 use Rattle.bcder.specs.calls.Gathered.{KeptMeans, HoldsMeant}
 use Rattle.bcder.specs.calls.Stream.{Stream}
 use Rattle.bcder.specs.calls.Valued.{HoldsValues, tag_of}

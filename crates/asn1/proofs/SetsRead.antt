@@ -12,7 +12,7 @@ use Rattle.bcder.specs.x690.Encoding.{IsEncoding, AreEncodings}
 use Rattle.bcder.specs.calls.Cause.{cause_of, of_source, of_memory, IsOfContent, IsRefusal}
 use Rattle.bcder.specs.calls.Stream.{Stream}
 use Rattle.bcder.specs.calls.Captured.{Kept}
-use Rattle.bcder.specs.calls.CapturingValues.{CapturesValue, CapturesNext, HasValueOrDeep}
+use Rattle.bcder.specs.calls.Capturing.{CapturesValue, CapturesNext, HasValueOrDeep}
 use Rattle.bcder.specs.calls.Content.{any, tagged, Reading, Octets, Moves}
 use Rattle.bcder.specs.calls.Walking.{HasNoNext, HasValue, HasValues, PassesValue}
 use Rattle.bcder.specs.calls.Valued.{HoldsValues, tag_of}
@@ -29,8 +29,8 @@ use Rattle.asn1.specs.SetsOf.{IsNotAfter, IsNotAfterFirst, AreAscending, AreSetO
 use Rattle.asn1.proofs.Members.{no_cons, cons_first, cons_rest}
 use Rattle.asn1.proofs.ReadingBack.{joined, and_none}
 use Rattle.asn1.proofs.Reading.{failed_holds_none, held_once, none_not_inside}
-use Rattle.bcder.specs.calls.Refusals as refusals
-use Rattle.bcder.specs.calls.Refusals.{Refuses}
+use Rattle.bcder.specs.calls.Content as refusals
+use Rattle.bcder.specs.calls.Content.{Refuses}
 use Rattle.asn1.proofs.Reading.{none_held_at_end}
 
 -- ---- values that ascend
@@ -239,10 +239,10 @@ module _ {T : Type 0} (Tags : Tag → Type 0) (Means : Tree → T → Type 0) (c
 
     module _ (kd : d.kind ≢ Octets) (ke : e.kind ≢ Octets) {X : Type 0} where
       all_before : (n : CapturesNext {X = X} d (Ok None) e) → HoldsValues c r.trees
-      all_before n = subst (HoldsValues c) (and_none r.trees) (r.before no_trees (none_held_at_end d e.stream.rest kd n.none.missing.0))
+      all_before n = subst (HoldsValues c) (and_none r.trees) (r.before no_trees (none_held_at_end d e.stream.rest kd n.value.missing.0))
 
       nothing_left : (n : CapturesNext {X = X} d (Ok None) e) → HoldsValues e no_trees
-      nothing_left n = none_held_at_end e e.stream.rest ke (done_is_at_its_end e e.kind refl n.none.missing.1)
+      nothing_left n = none_held_at_end e e.stream.rest ke (done_is_at_its_end e e.kind refl n.value.missing.1)
 
       whole_set : (n : CapturesNext {X = X} d (Ok None) e) → TakesFields (AreSetOf c.mode Tags Means) c xs e
       whole_set n = record {
@@ -273,7 +273,7 @@ module _ {T : Type 0} (Tags : Tag → Type 0) (Means : Tree → T → Type 0) (c
       capture_refused (refusals.Refuses.otherwise h) = types.RefusesFields.memory h.0 refl
 
       pub refuses_set : CapturesNext d (Err f) e → ReadsFields (AreSetOf c.mode Tags Means) true c (Err f) e
-      refuses_set n = record { value = tt; no_fault = tt; refused = capture_refused n.refused; mode = o ∙ r.mode; marked = n.marked ∙ r.marked }
+      refuses_set n = record { value = tt; no_fault = tt; refused = capture_refused n.refused.1; mode = o ∙ r.mode; marked = n.marked ∙ r.marked }
 
       pub stops_set : RefusesFields (AreSetOf c.mode Tags Means) true c f e → e.marked ≡ d.marked → ReadsFields (AreSetOf c.mode Tags Means) true c (Err f) e
       stops_set q n = record { value = tt; no_fault = tt; refused = q; mode = o ∙ r.mode; marked = n ∙ r.marked }

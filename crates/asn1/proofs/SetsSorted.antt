@@ -20,7 +20,7 @@ use Rattle.bcder.specs.x690.Tree.{Trees, no_trees, ◌+++◌}
 use Rattle.bcder.specs.x690.Encoding.{AreEncodings}
 use Rattle.bcder.specs.calls.Captured.{Kept}
 use Rattle.bcder.specs.calls.Meaning.{Encoded, Meaning, IsLawful}
-use Rattle.bcder.specs.calls.Joined.{nothing, EachOf, Joined}
+use Rattle.bcder.specs.calls.Meaning.{nothing, EachOf, Joined}
 use Rattle.bcder.specs.calls.Gathered.{suits, KeptMeans, HoldsMeant}
 use Rattle.bcder.specs.calls.Encoders.{RefusesBy, SizeOfValues, Writes}
 use Rattle.bcder.specs.laws.Joined.{EachOf_lawful}
@@ -257,8 +257,12 @@ module _ {T : Type 0} (W : T → Meaning → Type 0) (xs : List T) where
     also_refuses e h = record { meant = λ n. to (Err e) (h.meant n); lacking = λ q. f (h.lacking q) }
 
     also_writes : {old new : Option (List ℕ)} (r : Result (Unit {0}) WriteError) → Writes (λ (e : Encoded). e.octets) M L old new r → Writes (λ (e : Encoded). e.octets) N K old new r
-    also_writes r (inl w) = inl (w.0, to (Ok w.0) w.1, lacks_more K f w.2)
-    also_writes r (inr w) = inr (w.0, w.1, also_refuses w.0 w.2, w.3)
+    also_writes r h = record {
+      went = elim h.went [
+        | inl w ↦ inl (w.0, to (Ok w.0) w.1, lacks_more K f w.2)
+        | inr w ↦ inr (w.0, w.1, also_refuses w.0 w.2, w.3)
+      ];
+    }
 
   pub row_written : (mode : Mode) → ((x : T) → IsLawful mode (W x)) → (mode ≢ Ber → length xs < 2) → (L : T → Type 0) {old new : Option (List ℕ)}
       (r : Result (Unit {0}) WriteError) → Writes (λ (e : Encoded). e.octets) (Joined (EachOf W xs)) (Any L xs) old new r

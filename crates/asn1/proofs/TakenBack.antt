@@ -8,8 +8,8 @@ use Rattle.bcder.specs.x690.Tree.{Tree, no_trees, ◌∷ₜ◌}
 use Rattle.bcder.specs.x690.Encoding.{IsEncoding, AreEncodings}
 use Rattle.bcder.specs.calls.Meaning.{Encoded}
 use Rattle.bcder.specs.calls.Content.{Reading}
-use Rattle.bcder.specs.calls.TakenBack.{StandsIn, SourceFailedOrNoMemory}
-use Rattle.bcder.specs.calls.WrittenStrings.{AnswersSuch}
+use Rattle.bcder.specs.calls.Written.{StandsIn, SourceFailedOrNoMemory}
+use Rattle.bcder.specs.calls.Written.{AnswersSuch}
 use Rattle.bcder.specs.calls.Valued.{tag_of}
 use Rattle.bcder.proofs.Lemmas.{open_has_not_failed, IsWithinOwed, value_once, header_is_there, header_of_tagged}
 use Rattle.asn1.specs.Types.{HasTagged, HasNoneOf, elsewhere, at_end, TakesTyped, RefusesTyped, TakesNextTyped}

@@ -6,7 +6,7 @@ use Rattle.std.proofs.Math.Nat.{eq-or-lt_of_le}
 use Rattle.std.proofs.lemmas.List.{get_or_default}
 use Rattle.bcder.specs.x690.Identifier.{Tag, Class, universal, application, context_specific, private}
 use Rattle.bcder.specs.x690.Tree.{Tree, Trees, no_trees, ◌∷ₜ◌, ◌+++◌}
-use Rattle.bcder.specs.calls.Joined.{Then, NoValues, Joined, nothing}
+use Rattle.bcder.specs.calls.Meaning.{Then, NoValues, Joined, nothing}
 use Rattle.bcder.specs.calls.Meaning.{Encoded, Meaning}
 use Rattle.bcder.specs.calls.Valued.{tag_of}
 use Rattle.asn1.specs.Types.{BeginWithout, AreList}

@@ -5,12 +5,12 @@ use Rattle.bcder.specs.declared.decode.error.DecodeError.{DecodeError}
 use Rattle.bcder.specs.x690.Identifier.{Tag}
 use Rattle.bcder.specs.x690.Tree.{Tree}
 use Rattle.bcder.specs.calls.Content.{Reading, tagged, HasHeader}
-use Rattle.bcder.specs.calls.Takes.{HasNone}
+use Rattle.bcder.specs.calls.Calls.{HasNone}
 use Rattle.bcder.specs.calls.Valued.{TakesTree, HasNoTree, WantsMemoryFor, TakesNextTree, RefusesTree}
 use Rattle.bcder.specs.calls.Valued as valued
 use Rattle.bcder.proofs.Lemmas.{IsWithinOwed, header_of_tagged}
 use Rattle.asn1.specs.Types.{Only, HasNoneOf, elsewhere, TakesTyped, HasNoTyped, AllocatesFor, of_header, by_tags, RefusesTyped, TakesNextTyped}
-use Rattle.bcder.specs.calls.Refusals as refusals
+use Rattle.bcder.specs.calls.Content as refusals
 use Rattle.asn1.specs.Types as types
 
 pub none_of_one : (tag : Tag) (c d : Reading) → HasNone (tagged tag) c d → HasNoneOf (Only tag) c d
@@ -41,11 +41,11 @@ module _ {T : Type 0} (tag : Tag) (Means : Tree → T → Type 0) (c d : Reading
   next_typed (Ok (Some x)) n = record { value = taken x n.value; none = tt; no_fault = n.no_fault; refused = tt; failed = tt; mode = n.mode; marked = n.marked }
   next_typed (Ok None) n = record {
     value = tt;
-    none = none_of_one tag c d n.none;
+    none = none_of_one tag c d n.value;
     no_fault = n.no_fault;
     refused = tt;
     failed = tt;
     mode = n.mode;
     marked = n.marked;
   }
-  next_typed (Err e) n = record { value = tt; none = tt; no_fault = tt; refused = refused e n.refused; failed = n.failed; mode = n.mode; marked = n.marked }
+  next_typed (Err e) n = record { value = tt; none = tt; no_fault = tt; refused = refused e n.refused.1; failed = n.refused.0; mode = n.mode; marked = n.marked }

@@ -13,7 +13,7 @@ use Rattle.bcder.specs.calls.Meaning.{Encoded, Meaning, ContentsMeaning, Exactly
 use Rattle.bcder.specs.calls.RestrictedString.{MeansRestricted}
 use Rattle.bcder.specs.calls.StringMeaning.{OctetsMean, StringMeans, is_cut, string_meaning}
 use Rattle.bcder.specs.calls.StringOctets.{StringOctets, whole, cut, octets_of, IsStringOf, MeansString}
-use Rattle.bcder.specs.calls.WrittenStrings.{IsWrittenString, WritesString}
+use Rattle.bcder.specs.calls.Written.{IsWrittenString, WritesString}
 use Rattle.bcder.specs.laws.StringMeanings.{StringMeans_lawful, octet_string_value}
 use Rattle.bcder.proofs.Enclosing.{inside_of, constructed_given}
 use Rattle.bcder.proofs.Lemmas.{means_flat}

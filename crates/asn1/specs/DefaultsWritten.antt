@@ -3,7 +3,7 @@ use Rattle.std.specs.Prelude.{◌≡◌, ◌⊎◌, Ok}
 use Rattle.std.proofs.Common.{inl, inr, ◌∙◌, sym}
 use Rattle.bcder.specs.declared.mode.Mode.{Mode}
 use Rattle.bcder.specs.x690.Encoding.{AreEncodings}
-use Rattle.bcder.specs.calls.Joined.{NoValues}
+use Rattle.bcder.specs.calls.Meaning.{NoValues}
 use Rattle.bcder.specs.calls.Meaning.{Encoded, Meaning, IsLawful}
 use Rattle.bcder.specs.laws.Joined.{NoValues_lawful}
 

@@ -7,7 +7,7 @@ use Rattle.bcder.specs.declared.mode.Mode.{Mode}
 use Rattle.bcder.specs.declared.mode.Mode.TheVariants.{Ber, Cer, Der}
 use Rattle.bcder.specs.x690.Encoding.{AreEncodings}
 use Rattle.bcder.specs.calls.Meaning.{Encoded, Meaning, IsOne, IsLawful}
-use Rattle.bcder.specs.calls.Joined.{nothing, join, EachOf, Joined}
+use Rattle.bcder.specs.calls.Meaning.{nothing, join, EachOf, Joined}
 use Rattle.bcder.specs.laws.Complete.{one_list}
 use Rattle.asn1.specs.Writing.{each_lawful}
 use Rattle.asn1.specs.Sorting.{Decided, Same, total, AllOf, Ascend, one_ascending}

@@ -3,7 +3,7 @@ use Rattle.bcder.specs.declared.mode.Mode.{Mode}
 use Rattle.bcder.specs.x690.Identifier.{Tag}
 use Rattle.bcder.specs.calls.StringMeaning.{StringMeans}
 use Rattle.bcder.specs.calls.StringOctets.{StringOctets, octets_of}
-use Rattle.bcder.specs.calls.WrittenStrings.{WritesString}
+use Rattle.bcder.specs.calls.Written.{WritesString}
 
 -- what is written of the string, whatever the tag, is an octet string with its octets
 abbrev pub IsWrittenAsString : Mode → StringOctets → Type 0

@@ -13,11 +13,11 @@ use Rattle.bcder.specs.calls.Cause.{cause_of, of_source, of_memory, IsRefusal}
 use Rattle.bcder.specs.x690.Identifier.{Tag, IsValueTag}
 use Rattle.bcder.specs.x690.Tree.{Tree, primitive, constructed, Trees, no_trees, ◌∷ₜ◌}
 use Rattle.bcder.specs.calls.Stream.{Stream, Grew}
-use Rattle.bcder.specs.calls.CapturingValues.{BeginsDeep}
+use Rattle.bcder.specs.calls.Capturing.{BeginsDeep}
 use Rattle.bcder.specs.calls.Content.{EndsBefore, Reading, Octets, any, tagged, IsAbsent, HasHeader}
-use Rattle.bcder.specs.calls.Takes.{HasNone}
+use Rattle.bcder.specs.calls.Calls.{HasNone}
 use Rattle.bcder.specs.calls.Walking.{HasValue}
-use Rattle.bcder.specs.calls.Typed.{InPrimitive}
+use Rattle.bcder.specs.calls.Valued.{InPrimitive}
 use Rattle.bcder.specs.calls.Valued.{tag_of, HoldsValues}
 use Rattle.bcder.specs.calls.Views.{before, after}
 

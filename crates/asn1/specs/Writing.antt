@@ -4,12 +4,12 @@ use Rattle.bcder.specs.declared.decode.error.DecodeError.{DecodeError}
 use Rattle.bcder.specs.x690.Identifier.{Tag, AreOctets}
 use Rattle.bcder.specs.x690.Tree.{Tree, Trees, no_trees, ◌∷ₜ◌, ◌+++◌}
 use Rattle.bcder.specs.declared.mode.Mode.{Mode}
-use Rattle.bcder.specs.calls.Joined.{NoValues, EachOf, Joined}
+use Rattle.bcder.specs.calls.Meaning.{NoValues, EachOf, Joined}
 use Rattle.bcder.specs.calls.Meaning.{Encoded, Meaning, IsLawful}
 use Rattle.bcder.specs.laws.Joined.{NoValues_lawful, EachOf_lawful, Joined_lawful}
 use Rattle.bcder.specs.calls.Content.{Reading}
-use Rattle.bcder.specs.calls.TakenBack.{StandsIn}
-use Rattle.bcder.specs.calls.WrittenStrings.{AnswersSuch}
+use Rattle.bcder.specs.calls.Written.{StandsIn}
+use Rattle.bcder.specs.calls.Written.{AnswersSuch}
 use Rattle.bcder.specs.calls.Valued.{tag_of}
 use Rattle.asn1.specs.Types.{TakesNextTyped}
 

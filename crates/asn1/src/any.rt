@@ -1,7 +1,7 @@
 //! A value of any type, kept as its encoding.
 ghost use Rattle.std.specs.Prelude.{◌≡◌, IfOk, IfErr, Option, true, [], ◌∷◌};
 ghost use Rattle.bcder.specs.calls.Captured.{kept_stream};
-ghost use Rattle.bcder.specs.calls.CapturingValues.{CapturesNext};
+ghost use Rattle.bcder.specs.calls.Capturing.{CapturesNext};
 ghost use Rattle.bcder.specs.calls.Gathered.{KeptMeans};
 ghost use Rattle.bcder.specs.calls.Views.{Moved, before, after};
 ghost use Rattle.bcder.specs.laws.Gathered.{kept_lawful};

@@ -1,7 +1,7 @@
 //! What each type writes.
 ghost use Rattle.std.specs.Prelude.{⊤, ◌⊎◌, Ok, MatchOption};
 ghost use Rattle.bcder.specs.x690.Tree.{no_trees, ◌+++◌};
-ghost use Rattle.bcder.specs.calls.Joined.{Then, NoValues, Joined};
+ghost use Rattle.bcder.specs.calls.Meaning.{Then, NoValues, Joined};
 ghost use Rattle.bcder.specs.calls.Meaning.{Encoded, ValueMeans};
 ghost use Rattle.bcder.specs.calls.Meaning.{constructed_meaning};
 ghost use Rattle.bcder.specs.laws.Joined.{Then_lawful, NoValues_lawful, Joined_lawful};

@@ -1,6 +1,7 @@
 -- A string that is read, and then checked against a set.
 use Rattle.std.proofs.Common.{◌≡◌, ◌≢◌, ℕ, ◌≤◌, List, refl, ap, sym, ◌∙◌, subst, inl, inr}
 use Rattle.std.specs.Prelude.{Result, Ok, Err, IfOk, IfErr}
+use Rattle.bcder.specs.calls.Readers.{AreNot}
 use Rattle.bcder.specs.declared.mode.Mode.{Mode}
 use Rattle.bcder.specs.declared.mode.Mode.TheVariants.{Cer}
 use Rattle.bcder.specs.declared.decode.content.State.TheVariants.{Open}
@@ -10,7 +11,6 @@ use Rattle.bcder.specs.calls.Stream.{limit_or}
 use Rattle.bcder.specs.calls.Content.{Reading, Octets}
 use Rattle.bcder.specs.calls.Readers.{Reads, RefusesReading, FindNoMemory}
 use Rattle.bcder.specs.calls.Readers as readers
-use Rattle.bcder.specs.calls.ReadCharacters.{NoCharacters}
 use Rattle.bcder.specs.x690.Identifier.{Tag}
 use Rattle.bcder.specs.x690.Tree.{Tree, primitive, constructed}
 use Rattle.bcder.specs.calls.StringOctets.{StringOctets, whole, octets_of, MeansString}
@@ -98,14 +98,14 @@ module _ (step : Step) (tag : Tag) (c d : Reading) (k : (c.kind ≡ Octets) × (
       record { value = tt; done = tt; no_fault = tt; refused = nothing (λ t x h m. long_none tag c k long t x h m.0) a; mode = refl; marked = refl }
 
   characters_refused : {X : Type 0} (e : DecodeError X) → (c.mode ≡ Cer → limit_or c.owed 0 ≤ 1000)
-      → RefusesReading (NoCharacters step) c e d → RefusesToRead tag (MeansPiece step c.mode) c e d
+      → RefusesReading (AreNot (IsOfSet step)) c e d → RefusesToRead tag (MeansPiece step c.mode) c e d
   characters_refused e most (readers.RefusesReading.source s g) = source s g
   characters_refused e most (readers.RefusesReading.few s a n) = nothing (too_few tag _ c k.0 k.1 s) a
   characters_refused e most (readers.RefusesReading.refused h (inl n) f) = nothing (none_of_set n.0) n.1
   characters_refused e most (readers.RefusesReading.refused h (inr m) f) =
       memory m.0 (of_octets c.stream.rest c.stream.rest (all_held c k.0 k.1 h) ((all_whole c most h, refl), m.1))
 
-  pub read_characters : {X : Type 0} (r : Result (List ℕ) (DecodeError X)) → Reads (λ w b. (b ≡ w) × IsOfSet step w) (NoCharacters step) c r d
+  pub read_characters : {X : Type 0} (r : Result (List ℕ) (DecodeError X)) → Reads (λ w b. (b ≡ w) × IsOfSet step w) (AreNot (IsOfSet step)) c r d
       → (d.kind ≡ Octets) × (d.state ≡ Open) → (c.mode ≡ Cer → limit_or c.owed 0 ≤ 1000) → ReadsContent tag (MeansPiece step c.mode) c r d
   read_characters {X} (Ok b) r l most = accepted_piece (read_piece {X = X} tag c d (Ok b) plain k l most)
     where

@@ -13,15 +13,16 @@ use Rattle.bcder.specs.calls.Cause.{Cause, cause_of, IsOfContent}
 use Rattle.bcder.specs.x690.Identifier.{Tag, end_of_contents}
 use Rattle.bcder.specs.steps.Peek.{is_constructed, len_of, header_of, octets_header}
 use Rattle.bcder.specs.calls.Stream.{Grew}
-use Rattle.bcder.specs.calls.Begins.{BeginsOther}
-use Rattle.bcder.specs.calls.Content.{NothingThere, Reading, Asked, tagged, Enters, HasMarker, Resembles, IsElsewhere, none_left}
+use Rattle.bcder.specs.calls.Violations.{BeginsOther}
+use Rattle.bcder.specs.calls.Content.{NothingThere, Reading, Asked, tagged, HasMarker, Resembles, IsElsewhere, none_left}
+use Rattle.bcder.specs.steps.Entering.{Enters}
 use Rattle.bcder.specs.calls.Content.{other, marker, IsAbsent}
 use Rattle.bcder.specs.steps.Entering.{EntersOctets, HasForm}
-use Rattle.bcder.specs.calls.Takes.{HasNone, TakesNext, by_form}
+use Rattle.bcder.specs.calls.Calls.{HasNone, TakesNext, by_form}
 use Rattle.bcder.proofs.Entering.{looked_enters, header_entered, no_fewer}
 use Rattle.bcder.proofs.Stopping.{header_stopped}
 use Rattle.bcder.proofs.Taking.{next_refused}
-use Rattle.bcder.specs.calls.Refusals.{Refuses, failed, source, nothing, otherwise}
+use Rattle.bcder.specs.calls.Content.{Refuses, failed, source, nothing, otherwise}
 use Rattle.bcder.proofs.Naming.{nothing_violated, looked_alike, header_alike, named_alike}
 
 alike : (c d : Reading) → Resembles c d → Resembles d c

@@ -11,7 +11,7 @@ use Rattle.bcder.specs.x690.Length.{big_endian, AreLengthOctets}
 use Rattle.bcder.specs.x690.Encoding.{Header, may_have}
 use Rattle.bcder.specs.steps.Reading.{may_tell, read_long, read_length, third_digit, second_digit, read_number, class_of}
 use Rattle.bcder.specs.steps.Reading.{is_marked, read_identifier, read_front, read_header, read_end, if_zero}
-use Rattle.bcder.specs.calls.Begins.{BeginsNoIdentifier}
+use Rattle.bcder.specs.calls.Violations.{BeginsNoIdentifier}
 use Rattle.bcder.specs.laws.Identifiers.{read_identifier-identifier, identifier_some}
 use Rattle.bcder.specs.laws.Lengths.{read_length-tells, read_end-complete}
 use Rattle.bcder.specs.laws.Sound.{none_is, some_inj, identifier_sound, length_sound, end_sound}

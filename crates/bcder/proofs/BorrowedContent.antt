@@ -10,10 +10,10 @@ use Rattle.bcder.specs.x690.Preorder.{Heading}
 use Rattle.bcder.specs.calls.Stream.{Stream}
 use Rattle.bcder.specs.calls.Content.{any, Reading, ContentForm, Moves, Whole, EndsBefore}
 use Rattle.bcder.specs.calls.Walking.{HasNoNext, PassesValue}
-use Rattle.bcder.specs.calls.Takes.{NextBy}
-use Rattle.bcder.specs.calls.Skipping.{WereCalls, RefusesOne}
-use Rattle.bcder.specs.calls.Refusals as refusals
-use Rattle.bcder.specs.calls.Refusals.{Refuses}
+use Rattle.bcder.specs.calls.Calls.{NextBy}
+use Rattle.bcder.specs.calls.Walking.{WereCalls, RefusesOne}
+use Rattle.bcder.specs.calls.Content as refusals
+use Rattle.bcder.specs.calls.Content.{Refuses}
 use Rattle.bcder.proofs.Naming.{Alike, ends_alike, front_named}
 
 -- content c, behind a borrow of this name
@@ -85,18 +85,16 @@ module _ (n : GName) where
         → (r : Result (Option T) E) → NextBy any (λ i _ j. PassesValue i j) Refuses c r d
         → NextBy any (λ i _ j. PassesValue i j) Refuses (named n c) r (named n d)
     passed_named Refuses f (Ok None) p = record {
-      value = tt;
-      none = record { missing = (ends_named c d.stream.rest p.none.missing.0, p.none.missing.1); marked = p.marked; no_fault = p.no_fault };
+      value = record { missing = (ends_named c d.stream.rest p.value.missing.0, p.value.missing.1); marked = p.marked; no_fault = p.no_fault };
       no_fault = p.no_fault;
       refused = tt;
-      failed = tt;
       mode = p.mode;
       marked = p.marked;
     }
     passed_named Refuses f (Ok (Some x)) p =
-        record { value = value_named c d p.value; none = tt; no_fault = p.no_fault; refused = tt; failed = tt; mode = p.mode; marked = p.marked }
+        record { value = value_named c d p.value; no_fault = p.no_fault; refused = tt; mode = p.mode; marked = p.marked }
     passed_named Refuses f (Err x) p =
-        record { value = tt; none = tt; no_fault = tt; refused = f x p.refused; failed = p.failed; mode = p.mode; marked = p.marked }
+        record { value = tt; no_fault = tt; refused = (p.refused.0, f x p.refused.1); mode = p.mode; marked = p.marked }
 
     calls_named : (calls : List Heading) → WereCalls c calls d → WereCalls (named n c) calls (named n d)
     calls_named calls w = record {

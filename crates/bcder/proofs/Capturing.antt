@@ -16,8 +16,10 @@ use Rattle.bcder.specs.calls.Cause.{Cause, cause_of, of_source, of_content, of_m
 use Rattle.bcder.specs.x690.Length.{IsEndOfContents}
 use Rattle.bcder.specs.calls.Stream.{Layer, Stream, Grew, cut, past, limited, ahead}
 use Rattle.bcder.specs.calls.Captured.{Kept}
-use Rattle.bcder.specs.calls.Capturing.{IsCaptureOf, Holds, Captures, RefusesCapture, RanFrom, HandsOver, CapturesOver}
-use Rattle.bcder.specs.calls.Capturing.{IsMarker, EndsIn, RefusesLeft, by_content, by_source, by_memory}
+use Rattle.bcder.specs.calls.Capturing.{IsCaptureOf, Holds, Captures, RefusesCapture}
+use Rattle.bcder.specs.steps.CaptureSteps.{RanFrom, HandsOver, CapturesOver}
+use Rattle.bcder.specs.steps.CaptureSteps.{IsMarker, EndsIn}
+use Rattle.bcder.specs.calls.Capturing.{RefusesLeft, by_content, by_source, by_memory}
 use Rattle.bcder.specs.calls.Content.{Reading, values, Octets, label, Falls, Closes, Moves, Whole}
 use Rattle.bcder.specs.laws.Canonical.{AreEncodings-in_ber}
 use Rattle.bcder.specs.laws.Lengths.{IsLengthForm-from_length}

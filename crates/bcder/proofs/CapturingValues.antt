@@ -17,17 +17,21 @@ use Rattle.bcder.specs.x690.Grammar.{IsOnly}
 use Rattle.bcder.specs.calls.Stream.{Grew}
 use Rattle.bcder.specs.calls.Captured.{Kept, AreWhole}
 use Rattle.bcder.specs.calls.Capturing.{IsCaptureOf, Captures, RefusesCapture, RefusesLeft, by_content, by_source, by_memory}
-use Rattle.bcder.specs.calls.Refusals.{Refuses, failed, source, nothing, otherwise}
-use Rattle.bcder.specs.calls.CapturingValues.{CapturesBy, PassesBy, LeadDeep, BeginsDeep}
-use Rattle.bcder.specs.calls.CapturingValues.{HasValueOrDeep, of_value, of_depth, HasValuesOrDeep, MetDeep, CapturesValue}
-use Rattle.bcder.specs.calls.CapturingValues.{CapturesNext, CapturesValues, HasOthers, PassesToEnd}
+use Rattle.bcder.specs.calls.Content.{Refuses, failed, source, nothing, otherwise}
+use Rattle.bcder.specs.calls.Capturing.{CapturesBy, LeadDeep}
+use Rattle.bcder.specs.steps.CaptureSteps.{PassesBy}
+use Rattle.bcder.specs.calls.Capturing.{BeginsDeep}
+use Rattle.bcder.specs.calls.Capturing.{HasValueOrDeep, of_value, of_depth, HasValuesOrDeep, CapturesValue}
+use Rattle.bcder.specs.steps.CaptureSteps.{MetDeep}
+use Rattle.bcder.specs.calls.Capturing.{CapturesNext, CapturesValues, HasOthers}
+use Rattle.bcder.specs.steps.CaptureSteps.{PassesToEnd}
 use Rattle.bcder.specs.calls.Content.{NothingThere, Reading, ContentForm, values, Octets, label, Closes, Moves, Whole, Falls}
 use Rattle.bcder.specs.calls.Content.{HasMarker, EndsBefore, IsDone, IsUsedUp, any}
 use Rattle.bcder.specs.calls.Calls.{Answered}
 use Rattle.bcder.specs.calls.Decoding.{by_closure, left_failed}
 use Rattle.bcder.specs.calls.Walking.{HasNoNext, HasNoValue, HasValue, PassesValue, ClosesBefore, HasValues, Walks, RefusesValues}
-use Rattle.bcder.specs.calls.Skipping.{RefusesOne, GoesDeep}
-use Rattle.bcder.specs.calls.Takes.{HasNone}
+use Rattle.bcder.specs.calls.Walking.{RefusesOne, GoesDeep}
+use Rattle.bcder.specs.calls.Calls.{HasNone}
 use Rattle.bcder.specs.steps.Entering.{GoesOn}
 use Rattle.bcder.proofs.Moving.{open_not_ended, open_not_failed}
 use Rattle.bcder.proofs.Entering.{Within, looked_failed}
@@ -128,18 +132,16 @@ module _ {C X : Type 0} (view : C → Reading) (post : MutBor C → Result (Unit
     captures_by (Ok k) h n m =
         let s = did h.handed h.left (Ok tt) h.answered in
         record {
-          captured = holds k h s.passed (s.marked ∙ h.hands.marked);
+          value = holds k h s.passed (s.marked ∙ h.hands.marked);
           no_fault = h.faults ∙ s.no_fault ∙ h.hands.faults;
           refused = tt;
-          as_before = tt;
           mode = m;
           marked = mark_of c d h.handed h.left h.hands.marked s.marked h.marked;
         }
     captures_by (Err e) h n m = record {
-      captured = tt;
+      value = tt;
       no_fault = tt;
-      refused = refused_left c n.handed n.left d e n.hands n.moves n.refuses;
-      as_before = (n.rest, n.owed, n.state);
+      refused = (refused_left c n.handed n.left d e n.hands n.moves n.refuses, n.rest, n.owed, n.state);
       mode = m;
       marked = mark_of c d n.handed n.left n.hands.marked (left_mark n.handed n.left e d.stream.faults n.refuses) n.marked;
     }
@@ -211,11 +213,9 @@ module _ (c i : Reading) (g : GoesOn c i) where
   module _ {X : Type 0} (f : i.stream.faults ≡ c.stream.faults) (d : Reading) where
     pub next_captured : (k : Kept) → CapturesBy {X = X} CapturesValue HasNoValue HasValueOrDeep i (Ok k) d → CapturesNext {X = X} c (Ok (Some k)) d
     next_captured k h = record {
-      value = captured_first k d h.captured;
-      none = tt;
+      value = captured_first k d h.value;
       no_fault = h.no_fault ∙ f;
       refused = tt;
-      failed = tt;
       mode = h.mode ∙ g.same.mode;
       marked = h.marked ∙ g.same.marked;
     }
@@ -225,10 +225,8 @@ module _ (c i : Reading) (g : GoesOn c i) where
       pub next_failed : CapturesNext {X = X} c (Err e) (as_failed d)
       next_failed = record {
         value = tt;
-        none = tt;
         no_fault = tt;
-        refused = where_of _ _ _ _ c i d (as_failed d) none_first (λ x. (x.0, some_first x.1)) e (looked_alike c i g.same) f refl h.refused;
-        failed = refl;
+        refused = (refl, where_of _ _ _ _ c i d (as_failed d) none_first (λ x. (x.0, some_first x.1)) e (looked_alike c i g.same) f refl h.refused.0);
         mode = h.mode ∙ g.same.mode;
         marked = h.marked ∙ g.same.marked;
       }
@@ -236,15 +234,13 @@ module _ (c i : Reading) (g : GoesOn c i) where
       pub failed_moves : Moves d (as_failed d)
       failed_moves = looked_failed d d (record { rest = refl; kept = refl; owed = refl; kind = refl; state = refl; mode = refl; marked = refl; name = refl })
           (let z : d.stream.faults ≤ d.stream.faults = omega arith in z) (as_failed d)
-          (h.as_before.2 ∙ g.same.state ∙ g.usable) refl refl refl refl refl refl refl
+          (h.refused.3 ∙ g.same.state ∙ g.usable) refl refl refl refl refl refl refl
 
 pub next_ended : {X : Type 0} (c d : Reading) → HasNone any c d → d.mode ≡ c.mode → CapturesNext {X = X} c (Ok None) d
 next_ended c d n m = record {
-  value = tt;
-  none = n;
+  value = n;
   no_fault = n.no_fault;
   refused = tt;
-  failed = tt;
   mode = m;
   marked = n.marked;
 }
@@ -254,10 +250,8 @@ pub next_stopped : {S X : Type 0} (why : S → Cause ContentError) (s : S) (e : 
     → Refuses why any (NothingThere any) ⊥ c s d → d.state ≡ Failed → d.mode ≡ c.mode → d.marked ≡ c.marked → CapturesNext {X = X} c (Err e) d
 next_stopped why s e c d w k h f m a = record {
   value = tt;
-  none = tt;
   no_fault = tt;
-  refused = walked (walk_stopped why cause_of s e k c d (next_refused why c d s w h));
-  failed = f;
+  refused = (f, walked (walk_stopped why cause_of s e k c d (next_refused why c d s w h)));
   mode = m;
   marked = a;
 }

@@ -4,7 +4,7 @@ use Rattle.std.proofs.lemmas.List.{length-append}
 use Rattle.std.specs.Prelude.{Option, true, false, is_some, Result, Ok, Err, IsErrAnd}
 use Rattle.bcder.specs.declared.string.restricted.char_set.CharSetError.{CharSetError}
 use Rattle.bcder.specs.x690.CharSet.{Front, Step, IsStep, Spells, IsOfSet}
-use Rattle.bcder.specs.calls.CharSetCalls.{NextChar, Checks}
+use Rattle.bcder.specs.calls.RestrictedString.{NextChar, Checks}
 
 same_front : (x y : Front) → Some x ≡ Some y → x ≡ y
 same_front x y e = cc

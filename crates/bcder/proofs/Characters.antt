@@ -8,7 +8,7 @@ use Rattle.std.specs.Str.{IsUtf8, chars, all_scalars}
 use Rattle.std.specs.Iterator.{YieldsFirst, MakesProgress, item_count}
 use Rattle.bcder.specs.declared.string.restricted.char_set.CharSetError.{CharSetError}
 use Rattle.bcder.specs.x690.CharSet.{Front, Step, IsStep, Spells, IsOfSet}
-use Rattle.bcder.specs.calls.CharSetCalls.{NextChar, characters_left}
+use Rattle.bcder.specs.calls.RestrictedString.{NextChar, characters_left}
 use Rattle.bcder.specs.x690.TextSets.{AreTexts}
 use Rattle.bcder.specs.x690.Characters.{and_behind, characters_within, characters}
 

@@ -1,10 +1,10 @@
 -- The text of components as they stand in octets.
 use Rattle.std.proofs.Common.{◌≡◌, ℕ, ◌-◌, List, [], ◌∷◌, ◌++◌, map, refl, ap, ◌∙◌, append_assoc, append-nil, nat_lt, true, false, Bool}
 use Rattle.std.specs.Prelude.{if◌then◌else◌}
-use Rattle.bcder.specs.calls.Components.{Part, part_value, parts_from, component_parts, other}
+use Rattle.bcder.specs.calls.Identifiers.{Part, part_value, parts_from, component_parts, other}
 use Rattle.bcder.specs.x690.ObjectIdentifier.{subidentifier_number, components_of, subidentifiers}
 use Rattle.bcder.specs.declared.oid.components.Position.TheVariants.{First}
-use Rattle.bcder.specs.calls.IdentifierText.{shown, dots_before, dotted, text_of}
+use Rattle.bcder.specs.calls.Identifiers.{shown, dots_before, dotted, text_of}
 
 abbrev pub shown_part : Part → List ℕ
 shown_part p = shown (part_value p)

@@ -15,8 +15,10 @@ use Rattle.bcder.specs.declared.decode.stop.Stop.TheVariants as stop
 use Rattle.bcder.specs.x690.Identifier.{Tag, AreOctets}
 use Rattle.bcder.specs.x690.Encoding.{Header}
 use Rattle.bcder.specs.calls.Stream.{Stream, IsSound, Grew, past, limited}
-use Rattle.bcder.specs.calls.Content.{NothingThere, Reading, ContentForm, Octets, any, Enters, Moves, Advances, FitsOwed, IsDone}
-use Rattle.bcder.specs.calls.Calls.{IsFormOf, Answered, AnswersDone, RefusesContent, by_closure, RanOver, TakesContent, RefusesFront, popped}
+use Rattle.bcder.specs.calls.Content.{NothingThere, Reading, ContentForm, Octets, any, Moves, FitsOwed, IsDone}
+use Rattle.bcder.specs.steps.Entering.{Enters, Advances}
+use Rattle.bcder.specs.calls.Calls.{IsFormOf, Answered, AnswersDone, RefusesContent, by_closure, RefusesFront}
+use Rattle.bcder.specs.steps.Inside.{RanOver, TakesContent, popped}
 use Rattle.bcder.specs.steps.WalkSteps.{WalksBy, itself, walked}
 use Rattle.bcder.specs.laws.Limits.{limited_sound}
 use Rattle.bcder.specs.laws.Moved.{untouched_is_moved, moved_keeps_kind}
@@ -26,8 +28,8 @@ use Rattle.bcder.proofs.Entering.{Within}
 use Rattle.bcder.proofs.WalkSteps.{done_here}
 use Rattle.bcder.proofs.WalkCalls.{refuses_walk}
 use Rattle.bcder.proofs.Taking.{value_refused}
-use Rattle.bcder.specs.calls.Refusals as refusals
-use Rattle.bcder.specs.calls.Refusals.{Refuses}
+use Rattle.bcder.specs.calls.Content as refusals
+use Rattle.bcder.specs.calls.Content.{Refuses}
 use Rattle.bcder.specs.calls.Walking.{HasNoNext, RefusesValues}
 use Rattle.bcder.proofs.Inner.{layer_is, layers_eq, takes_definite, encodes_primitive}
 

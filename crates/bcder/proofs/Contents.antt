@@ -7,7 +7,7 @@ use Rattle.bcder.specs.declared.mode.Mode.TheVariants.{Ber, Cer, Der}
 use Rattle.bcder.specs.x690.Identifier.{AreOctets}
 use Rattle.bcder.specs.x690.Integer.{AreInteger, integer_octets}
 use Rattle.bcder.specs.calls.Meaning.{Exactly, ExactlyOctets, truth_octets}
-use Rattle.bcder.specs.calls.ReadBack.{IsReadBack}
+use Rattle.bcder.specs.calls.Written.{IsReadBack}
 use Rattle.bcder.specs.calls.Readers.{IsSigned, IsUnsigned, IsTruth}
 use Rattle.bcder.specs.laws.Integers.{some_integer}
 

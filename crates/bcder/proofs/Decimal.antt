@@ -8,7 +8,7 @@ use Rattle.std.proofs.lemmas.Str.Parse.{digit_at, without_leading_plus_none}
 use Rattle.bcder.specs.x690.Identifier.{AreOctets}
 use Rattle.bcder.specs.x690.ObjectIdentifier.{subidentifier_number, cut_after, subidentifiers, IsWhole}
 use Rattle.bcder.specs.x690.ObjectIdentifier.{AreSubidentifiers, IsComplete, components_of, components}
-use Rattle.bcder.specs.calls.IdentifierText.{shown, dotted, text_of, between_dots, IsComponentText, AreComponentTexts, MayBegin, IsTextOf, ReadsParts}
+use Rattle.bcder.specs.calls.Identifiers.{shown, dotted, text_of, between_dots, IsComponentText, AreComponentTexts, MayBegin, IsTextOf, ReadsParts}
 use Rattle.bcder.specs.steps.Pushed.{AreMarked}
 use Rattle.bcder.proofs.Texts.{HasNoDot, split_dot, split_none}
 use Rattle.bcder.proofs.Digits.{whole-push, marked-push}

@@ -11,10 +11,11 @@ use Rattle.bcder.specs.calls.Cause.{Cause, cause_of, position_of, MatchCause, Is
 use Rattle.bcder.specs.declared.decode.content.State.TheVariants.{Open}
 use Rattle.bcder.specs.declared.decode.content.Kind.TheVariants as kind
 use Rattle.bcder.specs.calls.Content.{Reading, Octets, Moves, Falls, Resembles, values}
-use Rattle.bcder.specs.calls.Calls.{RunsOver}
-use Rattle.bcder.specs.calls.Decoding.{IsAllOf, RanOn, Decodes, RefusesDecode}
-use Rattle.bcder.specs.calls.DecodingAll.{AnswersToEnd, RefusesToEnd, IsWithin, HandsWithin, DecodesWithin, RefusesWithin}
-use Rattle.bcder.specs.calls.DecodingAll.{RefusesRest, octets_left, source_failed, DecodesWhole, RefusesWhole, by_decoding, by_rest}
+use Rattle.bcder.specs.steps.Inside.{RunsOver}
+use Rattle.bcder.specs.calls.Decoding.{IsAllOf, Decodes, RefusesDecode}
+use Rattle.bcder.specs.steps.Inside.{RanOn}
+use Rattle.bcder.specs.calls.Decoding.{AnswersToEnd, RefusesToEnd, IsWithin, HandsWithin, DecodesWithin, RefusesWithin}
+use Rattle.bcder.specs.calls.Decoding.{RefusesRest, octets_left, source_failed, DecodesWhole, RefusesWhole, by_decoding, by_rest}
 use Rattle.bcder.specs.calls.Views.{lent}
 use Rattle.bcder.specs.laws.Limits.{first_kept, rest_kept}
 use Rattle.bcder.proofs.Entering.{no_fewer}

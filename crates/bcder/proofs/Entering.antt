@@ -19,9 +19,10 @@ use Rattle.bcder.specs.declared.decode.error.ContentError.{ContentError}
 use Rattle.bcder.specs.calls.Cause.{Cause}
 use Rattle.bcder.specs.declared.decode.content.Kind.TheVariants as kind
 use Rattle.bcder.specs.declared.decode.violation.Violation.TheVariants as v
-use Rattle.bcder.specs.calls.Begins.{BeginsOther}
+use Rattle.bcder.specs.calls.Violations.{BeginsOther}
 use Rattle.bcder.specs.calls.Content.{EndsBefore, Reading, Asked, any, tagged, IsAsked, HasHeader, HasMarker, Falls, FitsOwed}
-use Rattle.bcder.specs.calls.Content.{Advances, Moves, Enters, TakesMarker, NoFront, Resembles, Violates, values, Octets}
+use Rattle.bcder.specs.steps.Entering.{Advances, Enters, TakesMarker, NoFront}
+use Rattle.bcder.specs.calls.Content.{Moves, Resembles, Violates, values, Octets}
 use Rattle.bcder.specs.calls.Content.{IsAtEnd, of_octets, of_definite, of_indefinite, of_unbounded, IsElsewhere, none_left}
 use Rattle.bcder.specs.calls.Content.{other, marker, IsMissing, NothingThere}
 use Rattle.bcder.specs.calls.Calls.{RefusesEnd, left_failed, source_failed, left_open}
@@ -32,7 +33,7 @@ use Rattle.bcder.specs.laws.Moved.{Falls-refl}
 use Rattle.bcder.proofs.Moving.{moves_failed, moves_marker, moves_still, open_not_ended}
 use Rattle.bcder.proofs.Headers.{no_header_unread, no_header_empty, header_no_marker, no_marker_unread, no_marker_empty, no_other_front, no_other_end}
 use Rattle.bcder.proofs.Headers.{no_other_unread, other_of, front_of_read, marker_of_end, end_no_header, header_no_end, no_header_long, size_is}
-use Rattle.bcder.specs.calls.Refusals.{Refuses, failed, source, nothing, otherwise}
+use Rattle.bcder.specs.calls.Content.{Refuses, failed, source, nothing, otherwise}
 use Rattle.bcder.proofs.Naming.{long_value}
 
 -- ---- an advance of a limited source

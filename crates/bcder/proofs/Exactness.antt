@@ -12,16 +12,15 @@ use Rattle.bcder.specs.calls.Stream.{Grew}
 use Rattle.bcder.specs.calls.Captured.{Kept}
 use Rattle.bcder.specs.calls.Content.{any, Reading, Octets, EndsBefore}
 use Rattle.bcder.specs.calls.Walking.{HasNoNext, HasNoValue, HasValue, PassesValue, HasValues, AllBy}
-use Rattle.bcder.specs.calls.Takes.{NextBy}
+use Rattle.bcder.specs.calls.Calls.{NextBy}
 use Rattle.bcder.specs.calls.Walking as walking
-use Rattle.bcder.specs.calls.Skipping.{Steps, SkipsValue, RefusesSkip, SkippedValueBy, RefusesOne, RefusesSkipAll}
-use Rattle.bcder.specs.calls.Skipping as skipping
-use Rattle.bcder.specs.calls.CapturingValues.{CapturesBy, HasValueOrDeep, of_value, of_depth}
-use Rattle.bcder.specs.calls.CapturingValues.{HasValuesOrDeep, CapturesValue, CapturesNext, CapturesValues, HasOthers}
+use Rattle.bcder.specs.calls.Walking.{Steps, SkipsValue, RefusesSkip, SkippedValueBy, RefusesOne, RefusesSkipAll}
+use Rattle.bcder.specs.calls.Capturing.{CapturesBy, HasValueOrDeep, of_value, of_depth}
+use Rattle.bcder.specs.calls.Capturing.{HasValuesOrDeep, CapturesValue, CapturesNext, CapturesValues, HasOthers}
 use Rattle.bcder.specs.laws.Exactly.{FoundMemory, AnswersNext, AnswersAll, IsShallow, MaySkip, AnswersSkip, AnswersCapture}
 use Rattle.bcder.proofs.Moving.{open_not_ended, open_not_failed}
 use Rattle.bcder.proofs.Entering.{Within}
-use Rattle.bcder.specs.calls.Refusals.{Refuses, failed, source, nothing, otherwise}
+use Rattle.bcder.specs.calls.Content.{Refuses, failed, source, nothing, otherwise}
 use Rattle.bcder.proofs.WalkSteps.{value_not_at_end, value_once}
 
 failed_end : (c : Reading) (after : List ℕ) → EndsBefore c after → c.state ≡ Failed → ⊥
@@ -60,9 +59,9 @@ module _ (c d : Reading) (within : Within c) (sound : Grew c.stream.faults d.str
 
   pub walked_exactly : {T X : Type 0} (r : Result (Option T) (DecodeError X)) → NextBy any (λ i _ j. PassesValue i j) (Refuses cause_of any HasNoNext ⊥) c r d
       → AnswersNext c r d
-  walked_exactly (Ok None) p = answers_next (Ok None) tt p.none.missing.0 tt
+  walked_exactly (Ok None) p = answers_next (Ok None) tt p.value.missing.0 tt
   walked_exactly (Ok (Some x)) p = answers_next (Ok (Some x)) p.value tt tt
-  walked_exactly (Err e) p = answers_next (Err e) tt tt p.refused
+  walked_exactly (Err e) p = answers_next (Err e) tt tt p.refused.1
 
   -- if memory was found, refusals are those of a walk
   walk_of_one : {X : Type 0} (e : DecodeError X) → (cause_of e ≡ of_memory → ⊥) → RefusesOne cause_of c e d → Refuses cause_of any HasNoNext ⊥ c e d
@@ -73,9 +72,9 @@ module _ (c d : Reading) (within : Within c) (sound : Grew c.stream.faults d.str
 
   pub passed_exactly : {T X : Type 0} (r : Result (Option T) (DecodeError X))
       → NextBy any (λ i _ j. PassesValue i j) (RefusesOne cause_of) c r d → FoundMemory r → AnswersNext c r d
-  passed_exactly (Ok None) s m = answers_next (Ok None) tt s.none.missing.0 tt
+  passed_exactly (Ok None) s m = answers_next (Ok None) tt s.value.missing.0 tt
   passed_exactly (Ok (Some x)) s m = answers_next (Ok (Some x)) s.value tt tt
-  passed_exactly (Err e) s m = answers_next (Err e) tt tt (walk_of_one e m s.refused)
+  passed_exactly (Err e) s m = answers_next (Err e) tt tt (walk_of_one e m s.refused.1)
 
   -- ---- skipping
 
@@ -89,24 +88,24 @@ module _ (c d : Reading) (within : Within c) (sound : Grew c.stream.faults d.str
   module _ {F X : Type 0} (step : Steps F ContentError) (f g : F) where
     no_refused_skip : (e : DecodeError X) (t : Tree) (w after : List ℕ) → HasValue c t w after → AnswersAll step f (preorder t 0)
         → IsShallow (preorder t 0) ⊎ (cause_of e ≡ of_memory → ⊥) → RefusesSkip cause_of step c f e g d → ⊥
-    no_refused_skip e t w after h a m (skipping.RefusesSkip.by_content calls called were r) = no_refused_value e t w after h r
-    no_refused_skip e t w after h a m (skipping.RefusesSkip.by_closure calls k q x called r were j) =
+    no_refused_skip e t w after h a m (walking.RefusesSkip.by_content calls called were r) = no_refused_value e t w after h r
+    no_refused_skip e t w after h a m (walking.RefusesSkip.by_closure calls k q x called r were j) =
         (let o = were.one t w after h in a calls o.0 k q g x (joined_calls calls o.0 (preorder t 0) k o.1) called r)
-    no_refused_skip e t w after h a (inl m) (skipping.RefusesSkip.by_memory calls k called were b l j) = (let o = were.one t w after h in
+    no_refused_skip e t w after h a (inl m) (walking.RefusesSkip.by_memory calls k called were b l j) = (let o = were.one t w after h in
         let y : k.depth < 4 = m calls o.0 k (joined_calls calls o.0 (preorder t 0) k o.1) b in let z : 4 ≤ k.depth = l in absurd (omega arith))
-    no_refused_skip e t w after h a (inr m) (skipping.RefusesSkip.by_memory calls k called were b l j) = m j
+    no_refused_skip e t w after h a (inr m) (walking.RefusesSkip.by_memory calls k called were b l j) = m j
 
     no_skip_at_end : (e : DecodeError X) (after : List ℕ) → EndsBefore c after → RefusesSkip cause_of step c f e g d → ⊥
-    no_skip_at_end e after h (skipping.RefusesSkip.by_content calls called were r) = no_refused_end e after h r
-    no_skip_at_end e after h (skipping.RefusesSkip.by_closure calls k q x called r were j) =
+    no_skip_at_end e after h (walking.RefusesSkip.by_content calls called were r) = no_refused_end e after h r
+    no_skip_at_end e after h (walking.RefusesSkip.by_closure calls k q x called r were j) =
         (let u = were.usable (not_nothing calls k) in u.1 after h)
-    no_skip_at_end e after h (skipping.RefusesSkip.by_memory calls k called were b l j) =
+    no_skip_at_end e after h (walking.RefusesSkip.by_memory calls k called were b l j) =
         (let u = were.usable (not_nothing calls k) in u.1 after h)
 
     pub skipped_exactly : {T : Type 0} (r : Result (Option T) (DecodeError X)) → NextBy any (λ i _ j. SkipsValue step i f g j)
         (λ i e j. RefusesSkip cause_of step i f e g j) c r d → AnswersSkip step c f r d
     skipped_exactly (Ok None) s = record {
-      found = λ t w after h m. absurd (let z = value_not_at_end c within t w after h in z d.stream.rest s.none.missing.0);
+      found = λ t w after h m. absurd (let z = value_not_at_end c within t w after h in z d.stream.rest s.value.missing.0);
       ended = λ after h. refl;
     }
     skipped_exactly (Ok (Some x)) s = record {
@@ -114,8 +113,8 @@ module _ (c d : Reading) (within : Within c) (sound : Grew c.stream.faults d.str
       ended = λ after h. absurd (let p = s.value.passes in let z = value_not_at_end c within p.tree p.value d.stream.rest p.has in z after h);
     }
     skipped_exactly (Err e) s = record {
-      found = λ t w after h m. absurd (no_refused_skip e t w after h m.0 m.1 s.refused);
-      ended = λ after h. absurd (no_skip_at_end e after h s.refused);
+      found = λ t w after h m. absurd (no_refused_skip e t w after h m.0 m.1 s.refused.1);
+      ended = λ after h. absurd (no_skip_at_end e after h s.refused.1);
     }
 
     pub value_exactly : {T : Type 0} (r : Result T (DecodeError X)) → SkippedValueBy step c f r g d → (t : Tree) (w after : List ℕ)
@@ -133,8 +132,8 @@ module _ (c d : Reading) (within : Within c) (sound : Grew c.stream.faults d.str
     capture_found : (r : Result (Option Kept) (DecodeError X)) → CapturesNext c r d → (t : Tree) (v after : List ℕ) → HasValue c t v after → FoundMemory r
         → IsOkAnd r (λ o. IsSomeAnd o (λ k. k.octets ≡ v))
     capture_found (Ok (Some k)) h t v after z m = (let s = value_once c h.value.tree t k.octets v d.stream.rest after h.value.has z in s.front)
-    capture_found (Ok None) h t v after z m = absurd ((value_not_at_end c within t v after z) d.stream.rest h.none.missing.0)
-    capture_found (Err e) h t v after z m = absurd (refuted h.refused)
+    capture_found (Ok None) h t v after z m = absurd ((value_not_at_end c within t v after z) d.stream.rest h.value.missing.0)
+    capture_found (Err e) h t v after z m = absurd (refuted h.refused.1)
       where
         refuted : Refuses cause_of any HasNoNext ((cause_of e ≡ of_memory) × HasValueOrDeep c) c e d → ⊥
         refuted (failed x o) = open_not_failed c.state z.usable x
@@ -146,7 +145,7 @@ module _ (c d : Reading) (within : Within c) (sound : Grew c.stream.faults d.str
         → IsOkAnd r (λ o. IsTrue (is_none o))
     capture_ended (Ok None) h after z = refl
     capture_ended (Ok (Some k)) h after z = absurd ((value_not_at_end c within h.value.tree k.octets d.stream.rest h.value.has) after z)
-    capture_ended (Err e) h after z = absurd (refuted h.refused)
+    capture_ended (Err e) h after z = absurd (refuted h.refused.1)
       where
         met : HasValueOrDeep c → ⊥
         met (of_value t v x y) = (value_not_at_end c within t v x y) after z
@@ -166,8 +165,8 @@ module _ {X : Type 0} (c d : Reading) (sound : Grew c.stream.faults d.stream.fau
 
   pub one_exactly : (r : Result Kept (DecodeError X)) → CapturesBy CapturesValue HasNoValue HasValueOrDeep c r d → FoundMemory r
       → (t : Tree) (w after : List ℕ) → HasValue c t w after → IsOkAnd r (λ k. k.octets ≡ w)
-  one_exactly (Ok k) h m t w after v = (let s = value_once c h.captured.tree t k.octets w d.stream.rest after h.captured.has v in s.front)
-  one_exactly (Err e) h m t w after v = absurd (refuted h.refused)
+  one_exactly (Ok k) h m t w after v = (let s = value_once c h.value.tree t k.octets w d.stream.rest after h.value.has v in s.front)
+  one_exactly (Err e) h m t w after v = absurd (refuted h.refused.0)
     where
       refuted : Refuses cause_of any HasNoValue ((cause_of e ≡ of_memory) × HasValueOrDeep c) c e d → ⊥
       refuted (failed s o) = open_not_failed c.state v.usable s
@@ -180,19 +179,19 @@ module _ {X : Type 0} (c d : Reading) (sound : Grew c.stream.faults d.stream.fau
   pub all_exactly : {T : Type 0} (r : Result T (DecodeError X)) → AllBy (RefusesSkipAll cause_of) c r d → FoundMemory r → c.state ≡ Open → HasValues c
       → IsOk r
   all_exactly (Ok x) s m o h = refl
-  all_exactly (Err e) s m o h = absurd (go s.refused)
+  all_exactly (Err e) s m o h = absurd (go s.refused.1)
     where
       go : RefusesSkipAll cause_of c e d → ⊥
-      go (skipping.RefusesSkipAll.by_values (failed a b)) = open_not_failed c.state o a
-      go (skipping.RefusesSkipAll.by_values (source a b)) = sound b
-      go (skipping.RefusesSkipAll.by_values (nothing n z)) = n.1 h
-      go (skipping.RefusesSkipAll.by_values (otherwise x)) = octets_no_values c x.0 h
-      go (skipping.RefusesSkipAll.by_depth j w g z) = m z
+      go (walking.RefusesSkipAll.by_values (failed a b)) = open_not_failed c.state o a
+      go (walking.RefusesSkipAll.by_values (source a b)) = sound b
+      go (walking.RefusesSkipAll.by_values (nothing n z)) = n.1 h
+      go (walking.RefusesSkipAll.by_values (otherwise x)) = octets_no_values c x.0 h
+      go (walking.RefusesSkipAll.by_depth j w g z) = m z
 
   pub captures_all_exactly : (r : Result Kept (DecodeError X)) → CapturesBy CapturesValues HasOthers HasValuesOrDeep c r d → FoundMemory r
       → (HasValues c → c.state ≡ Open → IsOk r) × (c.state ≡ Ended → IsOk r)
   captures_all_exactly (Ok k) h m = (λ v o. refl, λ e. refl)
-  captures_all_exactly (Err e) h m = (λ v o. absurd (refuted v o h.refused), λ s. absurd (not_ended s h.refused))
+  captures_all_exactly (Err e) h m = (λ v o. absurd (refuted v o h.refused.0), λ s. absurd (not_ended s h.refused.0))
     where
       refuted : HasValues c → c.state ≡ Open → Refuses cause_of any HasOthers ((cause_of e ≡ of_memory) × HasValuesOrDeep c) c e d → ⊥
       refuted v o (failed s a) = open_not_failed c.state o s

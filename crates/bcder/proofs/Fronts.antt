@@ -7,7 +7,7 @@ use Rattle.bcder.specs.x690.Identifier.{AreOctets, Tag}
 use Rattle.bcder.specs.x690.Length.{IsEndOfContents}
 use Rattle.bcder.specs.x690.Tree.{Trees}
 use Rattle.bcder.specs.x690.Encoding.{IsHeader, AreEncodings}
-use Rattle.bcder.specs.calls.ContentsLen.{length_of}
+use Rattle.bcder.specs.calls.Content.{length_of}
 use Rattle.bcder.specs.steps.Reading.{read_header, read_end, read_list, after_list}
 use Rattle.bcder.specs.laws.Complete.{header_complete}
 use Rattle.bcder.specs.laws.Lengths.{read_end-complete}

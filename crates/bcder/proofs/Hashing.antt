@@ -4,7 +4,7 @@ use Rattle.std.proofs.lemmas.Grind.{common_steps}
 use Rattle.std.proofs.lemmas.List.{take_at, drop_at, take_all}
 use Rattle.std.proofs.lemmas.Bool.{cases_lt}
 use Rattle.std.specs.List.{fold}
-use Rattle.bcder.specs.calls.Blocks.{first_blocks, blocks}
+use Rattle.bcder.specs.calls.StringOctets.{first_blocks, blocks}
 
 one_more : (n : ℕ) → (64 + n + 63) / 64 ≡ suc ((n + 63) / 64)
 one_more n = omega arith

@@ -11,7 +11,7 @@ use Rattle.bcder.specs.x690.Tree.{Tree, primitive, constructed, Trees}
 use Rattle.bcder.specs.x690.Encoding.{may_have, IsHeader, IsDefinite, IsFramed, IsEncoding, AreEncodings, Header}
 use Rattle.bcder.specs.steps.Reading.{class_of, is_marked, read_identifier, read_length, read_front, read_header, read_end}
 use Rattle.bcder.specs.steps.Peek.{HasOtherTag, HasNoHeader}
-use Rattle.bcder.specs.calls.Begins.{BeginsOther}
+use Rattle.bcder.specs.calls.Violations.{BeginsOther}
 use Rattle.bcder.specs.calls.Content.{Reading, Asked, tagged, IsAsked, HasHeader, HasMarker, Falls, FitsOwed}
 use Rattle.bcder.specs.laws.Identifiers.{read_identifier-identifier}
 use Rattle.bcder.specs.laws.Lengths.{read_length-tells, read_end-complete}

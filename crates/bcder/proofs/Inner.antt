@@ -20,8 +20,10 @@ use Rattle.bcder.specs.declared.decode.error.ContentError.{ContentError}
 use Rattle.bcder.specs.calls.Cause.{Cause}
 use Rattle.bcder.specs.declared.decode.content.Kind.TheVariants as kind
 use Rattle.bcder.specs.calls.Content.{Reading, ContentForm, values, Octets, label, Moves}
-use Rattle.bcder.specs.calls.Content.{MovesBy, Whole, Falls, Closes, IsDone, IsUsedUp, Advances, FitsOwed}
-use Rattle.bcder.specs.calls.Calls.{IsFormOf, ContentOf, AnswersDone, RanOver, TakesContent, popped}
+use Rattle.bcder.specs.calls.Content.{MovesBy, Whole, Falls, Closes, IsDone, IsUsedUp, FitsOwed}
+use Rattle.bcder.specs.steps.Entering.{Advances}
+use Rattle.bcder.specs.calls.Calls.{IsFormOf, ContentOf, AnswersDone}
+use Rattle.bcder.specs.steps.Inside.{RanOver, TakesContent, popped}
 use Rattle.bcder.specs.steps.Inside.{kind_behind, limit_inside, limit_outside, IsTaken}
 use Rattle.bcder.specs.calls.Views.{limited_stream}
 use Rattle.bcder.specs.laws.Limits.{rest_told_behind, limited_sound}

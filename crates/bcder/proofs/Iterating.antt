@@ -7,7 +7,7 @@ use Rattle.bcder.specs.declared.mode.Mode.{Mode}
 use Rattle.bcder.specs.x690.Tree.{Trees, no_trees, ◌∷ₜ◌, ◌+++◌}
 use Rattle.bcder.specs.calls.Meaning.{Encoded, Meaning}
 use Rattle.bcder.specs.calls.Encoders.{TellsSize, TellsSum}
-use Rattle.bcder.specs.calls.Joined.{nothing, join, EachOf, IsSum}
+use Rattle.bcder.specs.calls.Meaning.{nothing, join, EachOf, IsSum}
 use Rattle.bcder.specs.calls.Iterated.{MeanSame, AlwaysGives}
 use Rattle.bcder.proofs.Joining.{join-assoc, WrittenSoFar}
 

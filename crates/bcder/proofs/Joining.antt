@@ -10,7 +10,7 @@ use Rattle.std.proofs.KnownBytes.{Appends-trans, Appends-nil}
 use Rattle.bcder.specs.declared.encode.error.WriteError.{WriteError}
 use Rattle.bcder.specs.x690.Tree.{Trees, no_trees, ◌∷ₜ◌, ◌+++◌}
 use Rattle.bcder.proofs.Writing.{stops, follows_on, same_octets}
-use Rattle.bcder.specs.calls.Joined.{nothing, join, Then, NoValues, EachOf, IsSum}
+use Rattle.bcder.specs.calls.Meaning.{nothing, join, Then, NoValues, EachOf, IsSum}
 use Rattle.bcder.specs.calls.Encoders.{HasEncoding, TellsSize, TellsSum, WroteOf, WritesEncoding, RefusesBy}
 
 -- what is looked at so far, before whatever comes after it

@@ -24,9 +24,9 @@ use Rattle.bcder.specs.calls.Stream.{Layer, Stream, cut, past, limit_left}
 use Rattle.bcder.specs.calls.Content.{Reading, values, Octets, Falls, FitsOwed, ContentForm, HasMarker, of_octets}
 use Rattle.bcder.specs.calls.Content.{of_definite, of_indefinite, of_unbounded, EndsBefore}
 use Rattle.bcder.specs.x690.Length.{IsEndOfContents}
-use Rattle.bcder.specs.calls.Calls.{popped}
+use Rattle.bcder.specs.steps.Inside.{popped}
 use Rattle.bcder.specs.steps.Inside.{limit_inside}
-use Rattle.bcder.specs.calls.Skipping.{HeadersStand}
+use Rattle.bcder.specs.calls.Walking.{HeadersStand}
 use Rattle.bcder.specs.laws.Complete.{header_complete, header_size}
 use Rattle.bcder.specs.laws.Identifiers.{BeginsValue, BeginsValue-identifier}
 use Rattle.bcder.specs.laws.Lengths.{read_end-complete}

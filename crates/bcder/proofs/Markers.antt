@@ -5,7 +5,7 @@ use Rattle.std.proofs.Common.{sym, ap, ◌∙◌, subst, take-append-drop, appen
 use Rattle.std.proofs.lemmas.List.{length-append, append_cancel_left, take_at}
 use Rattle.bcder.specs.declared.mode.Mode.{Mode}
 use Rattle.bcder.specs.x690.Length.{IsLengthForm, IsEndOfContents}
-use Rattle.bcder.specs.calls.Capturing.{EndsIn, EndsBy}
+use Rattle.bcder.specs.steps.CaptureSteps.{EndsIn, EndsBy}
 use Rattle.bcder.specs.declared.decode.error.ContentError.{ContentError}
 use Rattle.bcder.specs.calls.Cause.{Cause, of_memory, is_memory_cause}
 use Rattle.bcder.specs.calls.Stream.{Grew}

@@ -6,7 +6,8 @@ use Rattle.bcder.specs.x690.Length.{IsEndOfContents}
 use Rattle.bcder.specs.x690.Tree.{Tree, no_trees, ◌∷ₜ◌}
 use Rattle.bcder.specs.x690.Encoding.{IsEncoding}
 use Rattle.bcder.specs.declared.decode.content.Kind.TheVariants as kind
-use Rattle.bcder.specs.calls.Content.{Reading, Octets, label, Moves, Advances, values}
+use Rattle.bcder.specs.calls.Content.{Reading, Octets, label, Moves, values}
+use Rattle.bcder.specs.steps.Entering.{Advances}
 use Rattle.bcder.specs.laws.Lists.{AreEncodings-one}
 use Rattle.bcder.specs.laws.Moved.{whole_marked, whole_none, Falls-refl, Falls-trans, untouched_is_moved, moved_twice_is_moved}
 

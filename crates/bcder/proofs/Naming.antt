@@ -12,8 +12,8 @@ use Rattle.bcder.specs.calls.Violations.{ViolatesFront}
 use Rattle.bcder.specs.calls.Content.{Reading, Asked, any, HasHeader, HasMarker, IsAtEnd, of_octets, of_definite, of_indefinite}
 use Rattle.bcder.specs.calls.Content.{of_unbounded, EndsBefore, NothingThere, Falls, FitsOwed, Resembles, Violates}
 use Rattle.bcder.specs.calls.Content.{NamesFront, in_front, truncated_contents, value_too_long, stray_end}
-use Rattle.bcder.specs.calls.Refusals.{Refuses}
-use Rattle.bcder.specs.calls.Refusals as refusals
+use Rattle.bcder.specs.calls.Content.{Refuses}
+use Rattle.bcder.specs.calls.Content as refusals
 use Rattle.bcder.specs.steps.Entering.{NamesViolation}
 use Rattle.bcder.specs.laws.Stands.{Headed}
 

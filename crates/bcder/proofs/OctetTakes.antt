@@ -7,8 +7,9 @@ use Rattle.bcder.specs.declared.decode.content.State.TheVariants.{Open}
 use Rattle.bcder.specs.declared.decode.error.DecodeError.{DecodeError}
 use Rattle.bcder.specs.calls.Cause.{cause_of, MatchCause, IsRefusal}
 use Rattle.bcder.specs.calls.Stream.{Stream, IsSound, Grew, cut, capped, limited}
-use Rattle.bcder.specs.calls.Content.{Reading, Octets, Falls, Moves, Advances}
-use Rattle.bcder.specs.calls.OctetTakes.{TakesNextOctet, TakesOctet, SkipsOctets}
+use Rattle.bcder.specs.calls.Content.{Reading, Octets, Falls, Moves}
+use Rattle.bcder.specs.steps.Entering.{Advances}
+use Rattle.bcder.specs.calls.Readers.{TakesNextOctet, TakesOctet, SkipsOctets}
 use Rattle.bcder.proofs.Moving.{moves_octets}
 use Rattle.bcder.proofs.Entering.{advances_by, no_fewer, grew_least}
 use Rattle.bcder.proofs.Remaining.{limit_stays, asked_moves}
@@ -79,29 +80,32 @@ module _ (c d : Reading) (s u : Stream) (o q : Option ℕ) (cs : c.stream ≡ li
       let l : 1 ≤ length (limited o s).rest = (let h = ap length e in omega arith) in (
         passed 1 a l f,
         record {
-          taken = ap (λ x. x.rest) cs ∙ e ∙ ap (λ x. b ∷ x.rest) (sym ds);
-          owed = falls 1 a l f;
-          fault = tt;
-          leaves = record { no_fault = same_faults f; kept = tt; still_owed = tt; mode = mo; marked = ma };
+          value = (ap (λ x. x.rest) cs ∙ e ∙ ap (λ x. b ∷ x.rest) (sym ds), falls 1 a l f);
+          no_fault = same_faults f;
+          refused = tt;
+          mode = mo;
+          marked = ma;
         },
       )
   next_octet (Ok None) e f g r =
       let a : (limited q u).rest ≡ (limited o s).rest = e.1 ∙ sym e.0 in (
         stayed a (no_fewer _ _ f),
         record {
-          taken = (ap (λ x. x.rest) cs ∙ e.0, ap (λ x. x.rest) ds ∙ e.1);
-          owed = same_owed a;
-          fault = tt;
-          leaves = record { no_fault = same_faults f; kept = tt; still_owed = tt; mode = mo; marked = ma };
+          value = (ap (λ x. x.rest) cs ∙ e.0, (same_rest a, same_owed a));
+          no_fault = same_faults f;
+          refused = tt;
+          mode = mo;
+          marked = ma;
         },
       )
   next_octet (Err x) e f g r = (
     stayed r (grew_least _ _ g),
     record {
-      taken = tt;
-      owed = tt;
-      fault = more_faults g;
-      leaves = record { no_fault = tt; kept = same_rest r; still_owed = same_owed r; mode = mo; marked = ma };
+      value = tt;
+      no_fault = tt;
+      refused = (more_faults g, (same_rest r, same_owed r));
+      mode = mo;
+      marked = ma;
     },
   )
 
@@ -113,20 +117,25 @@ module _ (c d : Reading) (s u : Stream) (o q : Option ℕ) (cs : c.stream ≡ li
       let l : 1 ≤ length (limited o s).rest = (let h = ap length e in omega arith) in (
         passed 1 a l f,
         record {
-          taken = ap (λ x. x.rest) cs ∙ e ∙ ap (λ x. b ∷ x.rest) (sym ds);
-          owed = falls 1 a l f;
+          value = (ap (λ x. x.rest) cs ∙ e ∙ ap (λ x. b ∷ x.rest) (sym ds), falls 1 a l f);
+          no_fault = same_faults f;
           refused = tt;
-          leaves = record { no_fault = same_faults f; kept = tt; still_owed = tt; mode = mo; marked = ma };
+          mode = mo;
+          marked = ma;
         },
       )
   one_octet (Err x) e f g h r = (
     stayed r h,
     record {
-      taken = tt;
-      owed = tt;
-      refused = subst (λ z. MatchCause (cause_of x) (Grew z.faults d.stream.faults) ((d.stream.faults ≡ z.faults) × (z.rest ≡ []) × IsRefusal x) ⊥) (sym cs)
-          (subst (λ z. MatchCause (cause_of x) (Grew s.faults z.faults) ((z.faults ≡ s.faults) × ((limited o s).rest ≡ []) × IsRefusal x) ⊥) (sym ds) g);
-      leaves = record { no_fault = tt; kept = same_rest r; still_owed = same_owed r; mode = mo; marked = ma };
+      value = tt;
+      no_fault = tt;
+      refused = (
+        subst (λ z. MatchCause (cause_of x) (Grew z.faults d.stream.faults) ((d.stream.faults ≡ z.faults) × (z.rest ≡ []) × IsRefusal x) ⊥) (sym cs)
+            (subst (λ z. MatchCause (cause_of x) (Grew s.faults z.faults) ((z.faults ≡ s.faults) × ((limited o s).rest ≡ []) × IsRefusal x) ⊥) (sym ds) g),
+        (same_rest r, same_owed r),
+      );
+      mode = mo;
+      marked = ma;
     },
   )
 
@@ -137,20 +146,24 @@ module _ (c d : Reading) (s u : Stream) (o q : Option ℕ) (cs : c.stream ≡ li
       let l : j ≤ length (limited o s).rest = omega (arith, e) in (
         passed j a l f,
         record {
-          count = e ∙ ap (λ x. min n (length x.rest)) (sym cs);
-          rest = ap (λ x. x.rest) ds ∙ a ∙ ap (λ x. drop j x.rest) (sym cs);
-          owed = falls j a l f;
-          fault = tt;
-          leaves = record { no_fault = same_faults f; kept = tt; still_owed = tt; mode = mo; marked = ma };
+          value = (
+            e ∙ ap (λ x. min n (length x.rest)) (sym cs),
+            ap (λ x. x.rest) ds ∙ a ∙ ap (λ x. drop j x.rest) (sym cs),
+            falls j a l f,
+          );
+          no_fault = same_faults f;
+          refused = tt;
+          mode = mo;
+          marked = ma;
         },
       )
   some_octets n (Err x) e a f g r = (
     stayed r (grew_least _ _ g),
     record {
-      count = tt;
-      rest = tt;
-      owed = tt;
-      fault = more_faults g;
-      leaves = record { no_fault = tt; kept = same_rest r; still_owed = same_owed r; mode = mo; marked = ma };
+      value = tt;
+      no_fault = tt;
+      refused = (more_faults g, (same_rest r, same_owed r));
+      mode = mo;
+      marked = ma;
     },
   )

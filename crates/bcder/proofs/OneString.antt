@@ -11,7 +11,7 @@ use Rattle.bcder.specs.x690.Tree.{Tree, primitive, constructed, Trees, no_trees,
 use Rattle.bcder.specs.x690.Encoding.{IsEncoding}
 use Rattle.bcder.specs.calls.StringOctets.{whole, cut, octets_of, parts}
 use Rattle.bcder.specs.x690.OctetString.{octet_string_tag, segments_of, flat, IsPiece, IsFull, IsLast, FollowFull, AreSegmentsIn, IsOctetString}
-use Rattle.bcder.specs.calls.OctetStrings.{PrimitiveInDer, PrimitiveInCer, OneString, OneStringEncoding, PartsJoin, MeansFlat, MeansSegments}
+use Rattle.bcder.specs.calls.Written.{PrimitiveInDer, PrimitiveInCer, OneString, OneStringEncoding, PartsJoin, MeansFlat, MeansSegments}
 use Rattle.bcder.specs.calls.Valued.{tag_of}
 use Rattle.bcder.specs.laws.Canonical.{one_spelling}
 use Rattle.bcder.proofs.Segments.{ArePieces, size_of, in_cer}

@@ -9,10 +9,11 @@ use Rattle.bcder.specs.declared.mode.Mode.{Mode}
 use Rattle.bcder.specs.x690.Encoding.{Header, IsEncoding}
 use Rattle.bcder.specs.x690.Tree.{Tree}
 use Rattle.bcder.specs.x690.Grammar.{IsOnly}
-use Rattle.bcder.specs.calls.Content.{any, Reading, Octets, Advances, Moves, Resembles, IsAtEnd, of_octets, of_definite}
+use Rattle.bcder.specs.calls.Content.{any, Reading, Octets, Moves, Resembles, IsAtEnd, of_octets, of_definite}
+use Rattle.bcder.specs.steps.Entering.{Advances}
 use Rattle.bcder.specs.calls.Content.{of_indefinite, of_unbounded, EndsBefore}
 use Rattle.bcder.specs.calls.Walking.{HasNoNext, PassesValue}
-use Rattle.bcder.specs.calls.Takes.{NextBy}
+use Rattle.bcder.specs.calls.Calls.{NextBy}
 use Rattle.bcder.specs.steps.Reading.{read_identifier, read_header}
 use Rattle.bcder.specs.steps.Entering.{GoesOn}
 use Rattle.bcder.specs.laws.Complete.{only_at_front}
@@ -20,8 +21,8 @@ use Rattle.bcder.specs.laws.Sound.{none_is}
 use Rattle.bcder.proofs.Moving.{moves_value, open_not_ended}
 use Rattle.bcder.proofs.Headers.{header_no_end, no_marker_unread}
 use Rattle.bcder.proofs.Entering.{Within, used_rest}
-use Rattle.bcder.specs.calls.Refusals as refusals
-use Rattle.bcder.specs.calls.Refusals.{Refuses}
+use Rattle.bcder.specs.calls.Content as refusals
+use Rattle.bcder.specs.calls.Content.{Refuses}
 use Rattle.bcder.proofs.Naming.{looked_alike, ends_alike, front_named}
 
 -- octets at the front of open content were passed that are the encoding of a value
@@ -85,29 +86,23 @@ module _ {E : Type 0} (c d e : Reading) (s : Resembles c d) (f : d.stream.faults
   pub looked_by : {T : Type 0} (r : Result (Option T) E) → NextBy any (λ i _ j. PassesValue i j) Refuses d r e
       → NextBy any (λ i _ j. PassesValue i j) Refuses c r e
   looked_by (Ok None) p = record {
-    value = tt;
-    none = record { missing = (looked_ends c d e.stream.rest s p.none.missing.0, p.none.missing.1); marked = p.marked ∙ s.marked; no_fault = p.no_fault ∙ f };
+    value = record { missing = (looked_ends c d e.stream.rest s p.value.missing.0, p.value.missing.1); marked = p.marked ∙ s.marked; no_fault = p.no_fault ∙ f };
     no_fault = p.no_fault ∙ f;
     refused = tt;
-    failed = tt;
     mode = p.mode ∙ s.mode;
     marked = p.marked ∙ s.marked;
   }
   looked_by (Ok (Some x)) p = record {
     value = looked_passes c d e s p.value;
-    none = tt;
     no_fault = p.no_fault ∙ f;
     refused = tt;
-    failed = tt;
     mode = p.mode ∙ s.mode;
     marked = p.marked ∙ s.marked;
   }
   looked_by (Err x) p = record {
     value = tt;
-    none = tt;
     no_fault = tt;
-    refused = refused x p.refused;
-    failed = p.failed;
+    refused = (p.refused.0, refused x p.refused.1);
     mode = p.mode ∙ s.mode;
     marked = p.marked ∙ s.marked;
   }

@@ -3,8 +3,8 @@ use Rattle.std.proofs.Common.{◌≡◌, ◌≢◌, ℕ, ◌+◌, ◌*◌, ◌<�
 use Rattle.bcder.specs.declared.oid.text.OidError.{OidError}
 use Rattle.bcder.specs.declared.oid.text.OidError.TheVariants.{NoMemory}
 use Rattle.bcder.specs.x690.ObjectIdentifier.{AreSubidentifiers, IsComplete, components}
-use Rattle.bcder.specs.calls.IdentifierText.{IsComponentText, AreComponentTexts, HasNoComponent, AreTextsOf, RefusesTexts, ReadsParts, RefusesParts}
-use Rattle.bcder.specs.calls.IdentifierText.RefusesTexts.{first_is_none, first_too_large, second_is_none, second_too_large, other_is_none, no_memory}
+use Rattle.bcder.specs.calls.Identifiers.{IsComponentText, AreComponentTexts, HasNoComponent, AreTextsOf, RefusesTexts, ReadsParts, RefusesParts}
+use Rattle.bcder.specs.calls.Identifiers.RefusesTexts.{first_is_none, first_too_large, second_is_none, second_too_large, other_is_none, no_memory}
 use Rattle.bcder.proofs.Fewest.{one_fewest}
 use Rattle.bcder.proofs.SubidentifierLists.{components_held, complete_held}
 

@@ -2,7 +2,8 @@
 use Rattle.std.proofs.Common.{◌≡◌, ℕ, ◌-◌, ◌≤◌, length, take, drop, Option, Some, refl, ap, sym, ◌∙◌, arith, subst}
 use Rattle.bcder.specs.declared.decode.content.State.TheVariants.{Open}
 use Rattle.bcder.specs.calls.Stream.{Stream, IsSound, cut, past, limited}
-use Rattle.bcder.specs.calls.Content.{Reading, Octets, Moves, Resembles, Advances}
+use Rattle.bcder.specs.calls.Content.{Reading, Octets, Moves, Resembles}
+use Rattle.bcder.specs.steps.Entering.{Advances}
 use Rattle.bcder.specs.laws.Limits.{limit_told, limit_told_after, first_kept}
 use Rattle.bcder.specs.laws.Moved.{moved_twice_is_moved}
 use Rattle.bcder.proofs.Moving.{moves_octets}

@@ -13,15 +13,15 @@ use Rattle.bcder.specs.x690.CharSet.{Step, IsOfSet}
 use Rattle.bcder.specs.calls.RestrictedString.{MeansRestricted}
 use Rattle.bcder.specs.calls.Meaning.{Encoded}
 use Rattle.bcder.specs.calls.StringMeaning.{StringMeans}
-use Rattle.bcder.specs.calls.TakenBack.{StandsIn}
+use Rattle.bcder.specs.calls.Written.{StandsIn}
 use Rattle.bcder.specs.calls.Walking.{HasValue}
 use Rattle.bcder.specs.calls.Valued.{tag_of, TakesTree, WantsMemoryFor, of_value, of_header, RefusesTree}
 use Rattle.bcder.specs.calls.Valued.{TakesNextTree, TakesOneTree}
-use Rattle.bcder.specs.calls.WrittenStrings.{IsWrittenString}
-use Rattle.bcder.specs.calls.WrittenRestricted.{IsTakenRestricted, WrittenAsReadOf, OneRestricted}
+use Rattle.bcder.specs.calls.Written.{IsWrittenString}
+use Rattle.bcder.specs.calls.Written.{IsTakenRestricted, WrittenAsReadOf, OneRestricted}
 use Rattle.bcder.specs.laws.Complete.{only_at_front}
 use Rattle.bcder.proofs.OneString.{means_flat, one_string, one_string_encoding}
-use Rattle.bcder.specs.calls.Refusals.{failed, source, nothing, otherwise}
+use Rattle.bcder.specs.calls.Content.{failed, source, nothing, otherwise}
 use Rattle.bcder.proofs.StringsBack.{string_taken, written_as_read}
 
 -- ---- taken as a string of the set, it is taken as an octet string
@@ -64,11 +64,11 @@ module _ (step : Step) (X : Type 0) (t : Tag) (mode : Mode) (w : List ℕ) (e : 
 
   next_there : (r : Result (Option StringOctets) (DecodeError X)) (d : Reading) → TakesNextTree t (MeansRestricted step c.mode) c r d
       → TakesNextTree t (MeansString c.mode) c r d
-  next_there (Ok None) d x = record { value = tt; none = x.none; no_fault = x.no_fault; refused = tt; failed = tt; mode = x.mode; marked = x.marked }
+  next_there (Ok None) d x = record { value = x.value; no_fault = x.no_fault; refused = tt; mode = x.mode; marked = x.marked }
   next_there (Ok (Some y)) d x =
-      record { value = tree_there y d x.value; none = tt; no_fault = x.no_fault; refused = tt; failed = tt; mode = x.mode; marked = x.marked }
+      record { value = tree_there y d x.value; no_fault = x.no_fault; refused = tt; mode = x.mode; marked = x.marked }
   next_there (Err f) d x =
-      record { value = tt; none = tt; no_fault = tt; refused = refused_there f d x.refused; failed = x.failed; mode = x.mode; marked = x.marked }
+      record { value = tt; no_fault = tt; refused = (x.refused.0, refused_there f d x.refused.1); mode = x.mode; marked = x.marked }
 
 pub restricted_taken : {X : Type 0} (step : Step) (t : Tag) (mode : Mode) (w : List ℕ) (e : Encoded) → IsOfSet step w → IsWrittenString t mode w e
     → IsTakenRestricted X step t mode w e

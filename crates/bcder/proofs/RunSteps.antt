@@ -18,7 +18,7 @@ use Rattle.bcder.specs.declared.decode.stop.Stop.{Stop}
 use Rattle.bcder.specs.declared.decode.error.ContentError.{ContentError}
 use Rattle.bcder.specs.steps.StopCause.{stop_cause, MatchStop}
 use Rattle.bcder.specs.calls.Cause.{of_source, IsOfContent}
-use Rattle.bcder.specs.calls.Calls.{popped}
+use Rattle.bcder.specs.steps.Inside.{popped}
 use Rattle.bcder.specs.x690.Identifier.{AreOctets}
 use Rattle.bcder.specs.x690.Encoding.{IsHeader, Header}
 use Rattle.bcder.specs.x690.Tree.{Trees, no_trees, ◌∷ₜ◌, primitive, constructed}
@@ -26,8 +26,9 @@ use Rattle.bcder.specs.steps.Growing.{AreOpen}
 use Rattle.bcder.specs.x690.Preorder.{Heading, preorder, preorders}
 use Rattle.bcder.specs.steps.Reading.{read_contents, read_list}
 use Rattle.bcder.specs.calls.Stream.{IsSound, Layer, Stream, Grew, cut, past, limited}
-use Rattle.bcder.specs.calls.Content.{NothingThere, Reading, values, any, Falls, FitsOwed, Enters, EndsBefore, Moves}
-use Rattle.bcder.specs.calls.Skipping.{Steps, Called}
+use Rattle.bcder.specs.calls.Content.{NothingThere, Reading, values, any, Falls, FitsOwed, EndsBefore, Moves}
+use Rattle.bcder.specs.steps.Entering.{Enters}
+use Rattle.bcder.specs.calls.Walking.{Steps, Called}
 use Rattle.bcder.specs.steps.Stacked as stacked
 use Rattle.bcder.specs.laws.Complete.{header_size}
 use Rattle.bcder.specs.laws.Limits.{first_kept}
@@ -39,7 +40,7 @@ use Rattle.bcder.proofs.LimitStack.{calls_on, falls_unwound, source_passes, firs
 use Rattle.bcder.proofs.LimitStack.{met_broken, left, broken, nothing_more, nothing_whole, few_there}
 use Rattle.bcder.proofs.Unwinding.{counts_falls, unwound_indefinites}
 use Rattle.bcder.specs.steps.WalkSteps.{NoValue}
-use Rattle.bcder.specs.calls.Refusals.{Refuses, failed, source, nothing, otherwise}
+use Rattle.bcder.specs.calls.Content.{Refuses, failed, source, nothing, otherwise}
 
 -- the closure was called at a header and at headings after it, and these values are open, without a fault
 pub record Goes {F : Type 0} (step : Steps F ContentError) (mode : Mode) (h : Header) (s : Stream) (o : Option ℕ) (f : F) (es : List Entry) (g : F) (t : Stream)

@@ -9,7 +9,8 @@ use Rattle.bcder.specs.declared.decode.content.State.TheVariants.{Failed}
 use Rattle.bcder.specs.declared.decode.source.limited.LimitedSource.{LimitedSource}
 use Rattle.bcder.specs.x690.Identifier.{AreOctets}
 use Rattle.bcder.specs.calls.Stream.{Stream, IsSound}
-use Rattle.bcder.specs.calls.Content.{Reading, values, Octets, Moves, Advances, Resembles}
+use Rattle.bcder.specs.calls.Content.{Reading, values, Octets, Moves, Resembles}
+use Rattle.bcder.specs.steps.Entering.{Advances}
 use Rattle.bcder.specs.laws.Limits.{limited_sound, limit_told, first_kept}
 use Rattle.bcder.proofs.Entering.{Within, advances_by, within}
 use Rattle.bcder.specs.calls.Views.{of_content, of_primitive, of_constructed, content_name, limited_stream}

@@ -16,13 +16,14 @@ use Rattle.bcder.specs.x690.Encoding.{IsEncoding, Header}
 use Rattle.bcder.specs.x690.Preorder.{Heading, preorder}
 use Rattle.bcder.specs.steps.Reading.{read_header, read_contents, read_list, read_tree}
 use Rattle.bcder.specs.calls.Stream.{Stream, Grew, cut, past, limited}
-use Rattle.bcder.specs.calls.Content.{EndsBefore, Reading, Octets, Resembles, any, Falls, Moves, Advances, Enters}
+use Rattle.bcder.specs.calls.Content.{EndsBefore, Reading, Octets, Resembles, any, Falls, Moves}
+use Rattle.bcder.specs.steps.Entering.{Advances, Enters}
 use Rattle.bcder.specs.x690.Grammar.{IsOnly}
 use Rattle.bcder.specs.calls.Walking.{HasNoNext, PassesValue, Walks}
-use Rattle.bcder.specs.calls.Takes.{HasNone, NextBy}
-use Rattle.bcder.specs.calls.Skipping.{Steps, Called, WereCalls, SkipsValue, RefusesSkip}
-use Rattle.bcder.specs.calls.Skipping.{SkippedValueBy, RefusesOne, RefusesSkipAll}
-use Rattle.bcder.specs.calls.Skipping as skipping
+use Rattle.bcder.specs.calls.Calls.{HasNone, NextBy}
+use Rattle.bcder.specs.calls.Walking.{Steps, Called, WereCalls, SkipsValue, RefusesSkip}
+use Rattle.bcder.specs.calls.Walking.{SkippedValueBy, RefusesOne, RefusesSkipAll}
+use Rattle.bcder.specs.calls.Walking as skipping
 use Rattle.bcder.specs.steps.Stacked.{heading, interrupt_cause, PassesCalls, IsUnderWay, IsBroken, RanBy, Breaks, by_source, by_content, by_closure, by_memory}
 use Rattle.bcder.specs.laws.Complete.{header_complete, header_size, tree_complete, only_at_front}
 use Rattle.bcder.specs.laws.Sound.{none_is, some_inj}
@@ -35,8 +36,8 @@ use Rattle.bcder.proofs.Moving.{moves_value, moves_failed, advances_trans, open_
 use Rattle.bcder.proofs.LimitStack.{cut_falls, past_falls, finished}
 use Rattle.bcder.proofs.Naming.{behind_header}
 use Rattle.bcder.proofs.Passing.{looked_open, looked_refused, looked_by}
-use Rattle.bcder.specs.calls.Refusals as refusals
-use Rattle.bcder.specs.calls.Refusals.{Refuses}
+use Rattle.bcder.specs.calls.Content as refusals
+use Rattle.bcder.specs.calls.Content.{Refuses}
 use Rattle.bcder.specs.steps.WalkSteps.{NoValue}
 use Rattle.bcder.proofs.WalkSteps.{no_next, walks_refused}
 
@@ -162,10 +163,8 @@ module _ (c d e : Reading) (k : Header) (s t : Stream) (o p : Option ℕ) (withi
         → d.stream.faults ≡ c.stream.faults → Called step f (heading k 0 ∷ calls) g → SkippedBy why step c f (Ok (Some y)) g e
     skipped_value why step f g y nf nd called = record {
       value = skips_value step f g called;
-      none = tt;
       no_fault = ap (λ z. z.faults) es ∙ nf ∙ ap (λ z. z.faults) (sym ds) ∙ nd;
       refused = tt;
-      failed = tt;
       mode = em ∙ x.advances.mode;
       marked = ea ∙ x.unmarked;
     }
@@ -196,10 +195,8 @@ module _ (c d e : Reading) (k : Header) (s t : Stream) (o p : Option ℕ) (withi
     pub skipped_not : {T : Type 0} → Breaks step c.mode k s o f h g t p → SkippedBy {T = T} why step c f (Err y) g e
     skipped_not b = record {
       value = tt;
-      none = tt;
       no_fault = tt;
-      refused = refused_by b;
-      failed = st;
+      refused = (st, refused_by b);
       mode = em ∙ x.advances.mode;
       marked = ea ∙ x.unmarked;
     }
@@ -261,15 +258,13 @@ module _ (c d e : Reading) (k : Header) (m : Mode) (s t : Stream) (o p : Option 
 module _ {F X : Type 0} (why : X → Cause ContentError) (step : Steps F ContentError) (c d : Reading) (f : F) (mode : d.mode ≡ c.mode)
     (marked : d.marked ≡ c.marked) where
   pub skipped_end : {T : Type 0} → HasNone any c d → SkippedBy {T = T} why step c f (Ok None) f d
-  skipped_end n = record { value = tt; none = n; no_fault = n.no_fault; refused = tt; failed = tt; mode = mode; marked = marked }
+  skipped_end n = record { value = n; no_fault = n.no_fault; refused = tt; mode = mode; marked = marked }
 
   pub skipped_none : {T : Type 0} (e : X) → Moves c d → Refuses why any HasNoNext ⊥ c e d → d.state ≡ Failed → SkippedBy {T = T} why step c f (Err e) f d
   skipped_none e m r a = record {
     value = tt;
-    none = tt;
     no_fault = tt;
-    refused = skipping.RefusesSkip.by_content [] refl (no_calls c d (moved_is_no_longer c d m)) r;
-    failed = a;
+    refused = (a, skipping.RefusesSkip.by_content [] refl (no_calls c d (moved_is_no_longer c d m)) r);
     mode = mode;
     marked = marked;
   }
@@ -279,7 +274,7 @@ module _ {F X : Type 0} (why : X → Cause ContentError) (step : Steps F Content
 module _ {F S : Type 0} (step : Steps F ContentError) (c : Reading) (f g : F) (d : Reading) where
   pub value_refused : {T U : Type 0} (e : DecodeError S) → SkippedBy {T = T} {X = DecodeError S} cause_of step c f (Err e) g d
       → SkippedValueBy {T = U} {S = S} step c f (Err e) g d
-  value_refused e s = record { value = tt; no_fault = tt; refused = inr (s.failed, s.refused); mode = s.mode; marked = s.marked }
+  value_refused e s = record { value = tt; no_fault = tt; refused = inr s.refused; mode = s.mode; marked = s.marked }
 
 -- ---- without a closure
 
@@ -287,12 +282,12 @@ module _ {X : Type 0} (why : X → Cause ContentError) (c d e : Reading) where
   -- a value that was passed at once
   pub one_at_once : {T : Type 0} (x : T) → PassesValue c d → d.stream.faults ≡ c.stream.faults → d.mode ≡ c.mode → d.marked ≡ c.marked
       → NextBy {E = X} any (λ i _ j. PassesValue i j) (RefusesOne why) c (Ok (Some x)) d
-  one_at_once x p n m k = record { value = p; none = tt; no_fault = n; refused = tt; failed = tt; mode = m; marked = k }
+  one_at_once x p n m k = record { value = p; no_fault = n; refused = tt; mode = m; marked = k }
 
   -- and one that was refused at once
   pub refused_at_once : {T : Type 0} (x : X) → RefusesOne why c x d → d.state ≡ Failed → d.mode ≡ c.mode → d.marked ≡ c.marked
       → NextBy {T = T} any (λ i _ j. PassesValue i j) (RefusesOne why) c (Err x) d
-  refused_at_once x r f m k = record { value = tt; none = tt; no_fault = tt; refused = r; failed = f; mode = m; marked = k }
+  refused_at_once x r f m k = record { value = tt; no_fault = tt; refused = (f, r); mode = m; marked = k }
 
   -- content that was only looked at before
   looked_calls : Resembles c d → (calls : List Heading) → WereCalls d calls e → WereCalls c calls e

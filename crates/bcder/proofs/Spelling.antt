@@ -1,9 +1,9 @@
 -- Octets put together for the components of a text.
 use Rattle.std.proofs.Common.{◌≡◌, ℕ, List, [], ◌∷◌, ◌++◌, refl, ap, ◌∙◌, append_assoc, inl, inr}
 use Rattle.bcder.specs.x690.ObjectIdentifier.{IsSubidentifier}
-use Rattle.bcder.specs.calls.IdentifierText.{between_dots, IsComponentText, IsNoComponent, IsTextOf, MayBegin}
-use Rattle.bcder.specs.calls.IdentifierText.{RefusesTexts, RefusesText, ReadsParts, RefusesParts}
-use Rattle.bcder.specs.calls.IdentifierText.RefusesTexts.{other_is_none, no_memory}
+use Rattle.bcder.specs.calls.Identifiers.{between_dots, IsComponentText, IsNoComponent, IsTextOf, MayBegin}
+use Rattle.bcder.specs.calls.Identifiers.{RefusesTexts, RefusesText, ReadsParts, RefusesParts}
+use Rattle.bcder.specs.calls.Identifiers.RefusesTexts.{other_is_none, no_memory}
 use Rattle.bcder.specs.declared.oid.text.OidError.{OidError}
 use Rattle.bcder.specs.declared.oid.text.OidError.TheVariants.{NotInteger, NoMemory}
 use Rattle.bcder.specs.steps.Pushed.{AppendsSubidentifier, AreSpelled, RefusesOthers}

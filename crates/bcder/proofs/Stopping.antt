@@ -4,8 +4,8 @@ use Rattle.bcder.specs.declared.decode.error.ContentError.{ContentError}
 use Rattle.bcder.specs.calls.Cause.{Cause, IsOfContent}
 use Rattle.bcder.specs.calls.Content.{NothingThere, any, Reading, Asked}
 use Rattle.bcder.specs.calls.Calls as calls
-use Rattle.bcder.specs.calls.Refusals as refusals
-use Rattle.bcder.specs.calls.Refusals.{Refuses}
+use Rattle.bcder.specs.calls.Content as refusals
+use Rattle.bcder.specs.calls.Content.{Refuses}
 use Rattle.bcder.specs.calls.Walking.{HasNoNext}
 use Rattle.bcder.specs.steps.Entering.{NamesViolation}
 

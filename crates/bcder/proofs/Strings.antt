@@ -18,7 +18,7 @@ use Rattle.bcder.specs.calls.Content.{any, Reading, Octets, Closes, HasHeader, I
 use Rattle.bcder.specs.calls.Walking.{HasValue, HasValues}
 use Rattle.bcder.specs.calls.Readers.{Reads, RefusesReading, FindNoMemory}
 use Rattle.bcder.specs.calls.Readers as readers
-use Rattle.bcder.specs.calls.CapturingValues.{CapturesBy, CapturesValues, HasOthers, HasValuesOrDeep}
+use Rattle.bcder.specs.calls.Capturing.{CapturesBy, CapturesValues, HasOthers, HasValuesOrDeep}
 use Rattle.bcder.specs.calls.StringOctets.{StringOctets, whole, cut, MeansString}
 use Rattle.bcder.specs.x690.OctetString.{segments_of, AreSegmentsIn, MayBeWhole, AreCut}
 use Rattle.bcder.specs.steps.SegmentTable.{segments_at, IsTable}
@@ -27,8 +27,8 @@ use Rattle.bcder.specs.calls.Valued.{HasNoTree, WantsMemoryFor, TakesNextTree}
 use Rattle.bcder.specs.calls.Valued as valued
 use Rattle.bcder.specs.laws.Lists.{empty_list}
 use Rattle.bcder.proofs.Moving.{open_not_ended, open_not_failed}
-use Rattle.bcder.specs.calls.Refusals as refusals
-use Rattle.bcder.specs.calls.Refusals.{Refuses}
+use Rattle.bcder.specs.calls.Content as refusals
+use Rattle.bcder.specs.calls.Content.{Refuses}
 use Rattle.bcder.proofs.Valued.{one_values, no_values_of_octets, primitive_in_front}
 
 -- ---- in one piece
@@ -172,10 +172,8 @@ module _ {X : Type 0} (Means : Mode → Tree → StringOctets → Type 0) (in_on
       means = subst (Means c.mode k.value.tree) (sym e) k.value.means;
       stays = k.value.stays;
     };
-    none = tt;
     no_fault = k.no_fault;
     refused = tt;
-    failed = tt;
     mode = k.mode;
     marked = k.marked;
   }
@@ -184,7 +182,7 @@ module _ {X : Type 0} (Means : Mode → Tree → StringOctets → Type 0) (in_on
   pub piece_not_taken : (after : List ℕ) (f : HasHeader (tagged tag) c after) → f.form ≡ false → (e : DecodeError X)
       → TakesNextTree {T = List ℕ} tag (λ t w. Means c.mode t (whole w)) c (Err e) d → TakesNextTree {T = StringOctets} tag (Means c.mode) c (Err e) d
   piece_not_taken after f p e k =
-      record { value = tt; none = tt; no_fault = tt; refused = of_piece k.refused; failed = k.failed; mode = k.mode; marked = k.marked }
+      record { value = tt; no_fault = tt; refused = (k.refused.0, of_piece k.refused.1); mode = k.mode; marked = k.marked }
     where
       none : HasNoTree {T = List ℕ} tag (λ t w. Means c.mode t (whole w)) c → (t : Tree) (w rest : List ℕ) (x : StringOctets) → HasValue c t w rest × (tag_of t ≡ tag)
           → Means c.mode t x → ⊥
@@ -282,8 +280,8 @@ module _ {X : Type 0} (tag : Tag) (c d : Reading) where
   pub read_segments : (k : Kept) (ss : List Segment) (s : StringOctets) → CapturesBy {X = X} CapturesValues HasOthers HasValuesOrDeep c (Ok k) d
       → IsTable c.mode k.octets ss → s ≡ cut k (segments_at k.octets ss) → ReadsContent tag (MeansString c.mode) {X = X} c (Ok s) d
   read_segments k ss s r t is = record {
-    value = subst (ReadsTree tag (MeansString c.mode) c) (sym is) (read_cut tag c d k ss r.captured t);
-    done = (let h : CapturesValues c k d = r.captured in h.done);
+    value = subst (ReadsTree tag (MeansString c.mode) c) (sym is) (read_cut tag c d k ss r.value t);
+    done = (let h : CapturesValues c k d = r.value in h.done);
     no_fault = r.no_fault;
     refused = tt;
     mode = r.mode;
@@ -296,7 +294,7 @@ module _ {X : Type 0} (tag : Tag) (c d : Reading) where
     value = tt;
     done = tt;
     no_fault = tt;
-    refused = valued.RefusesToRead.nothing (not_cut tag c d k r.captured o none) a;
+    refused = valued.RefusesToRead.nothing (not_cut tag c d k r.value o none) a;
     mode = r.mode;
     marked = r.marked;
   }
@@ -304,7 +302,7 @@ module _ {X : Type 0} (tag : Tag) (c d : Reading) where
   pub refuse_values : (e : DecodeError X) → CapturesBy {X = X} CapturesValues HasOthers HasValuesOrDeep c (Err e) d → c.kind ≢ Octets → c.mode ≢ Der
       → ReadsContent tag (MeansString c.mode) c (Err e) d
   refuse_values e r o m =
-      record { value = tt; done = tt; no_fault = tt; refused = not_captured tag c d e o m r.as_before r.refused; mode = r.mode; marked = r.marked }
+      record { value = tt; done = tt; no_fault = tt; refused = not_captured tag c d e o m (r.refused.1, r.refused.2, r.refused.3) r.refused.0; mode = r.mode; marked = r.marked }
 
   -- segments for whose table there was no memory
   pub refuse_table : (k : Kept) (e : DecodeError X) → CapturesBy {X = X} CapturesValues HasOthers HasValuesOrDeep c (Ok k) d → AreCut c.mode k.octets
@@ -314,7 +312,7 @@ module _ {X : Type 0} (tag : Tag) (c d : Reading) where
     done = tt;
     no_fault = tt;
     refused = valued.RefusesToRead.memory m
-        (valued.NeedsMemory.of_segments a.1.values (captured_held c k d r.captured a.1.values a.1.encode) a.1.shape);
+        (valued.NeedsMemory.of_segments a.1.values (captured_held c k d r.value a.1.values a.1.encode) a.1.shape);
     mode = r.mode;
     marked = r.marked;
   }

@@ -22,10 +22,10 @@ use Rattle.bcder.specs.calls.Meaning.{Encoded, Meaning, fits_enclosed}
 use Rattle.bcder.specs.calls.StringMeaning.{full_segments, segments_in_cer, is_cut, OctetsMean, StringMeans}
 use Rattle.bcder.specs.calls.Content.{Reading, tagged, IsAbsent, IsElsewhere, none_left, other, marker}
 use Rattle.bcder.specs.calls.Walking.{HasValue}
-use Rattle.bcder.specs.calls.Takes.{HasNone}
+use Rattle.bcder.specs.calls.Calls.{HasNone}
 use Rattle.bcder.specs.calls.Valued.{tag_of, TakesTree, TakesNextTree, TakesOneTree, RefusesTree}
-use Rattle.bcder.specs.calls.TakenBack.{StandsIn, SourceFailedOrNoMemory}
-use Rattle.bcder.specs.calls.WrittenStrings.{IsWrittenString, HasOctets, HasSomeOctets, AnswersSuch, IsTakenString, IsMadeUp, one_encoded, WrittenAsRead}
+use Rattle.bcder.specs.calls.Written.{StandsIn, SourceFailedOrNoMemory}
+use Rattle.bcder.specs.calls.Written.{IsWrittenString, HasOctets, HasSomeOctets, AnswersSuch, IsTakenString, IsMadeUp, one_encoded, WrittenAsRead}
 use Rattle.bcder.specs.laws.Canonical.{big_endian-lt, one_spelling}
 use Rattle.bcder.specs.laws.Complete.{only_at_front, two_octets}
 use Rattle.bcder.specs.laws.Lengths.{IsLengthForm-from_length}
@@ -36,7 +36,7 @@ use Rattle.bcder.proofs.Headers.{front_of_header, no_other_front}
 use Rattle.bcder.proofs.Moving.{open_not_ended, open_not_failed}
 use Rattle.bcder.proofs.OneString.{means_flat, one_string, one_string_encoding, over_1000}
 use Rattle.bcder.proofs.Segmenting.{by_octets, parts_octets}
-use Rattle.bcder.specs.calls.Refusals as refusals
+use Rattle.bcder.specs.calls.Content as refusals
 use Rattle.bcder.proofs.WrittenStrings.{segments_hold, segments_shape, meant_whole, meant_cut, not_ber, string_written}
 
 -- ---- what stands in front
@@ -121,11 +121,11 @@ module _ (X : Type 0) (t : Tag) (mode : Mode) (w : List ℕ) (e : Encoded) (writ
 
   next_taken : (r : Result (Option StringOctets) (DecodeError X)) (d : Reading) → TakesNextTree t (MeansString c.mode) c r d
       → AnswersSuch (HasSomeOctets w) after c r d
-  next_taken (Ok None) d x = absurd (not_none d x.none)
+  next_taken (Ok None) d x = absurd (not_none d x.value)
   next_taken (Ok (Some y)) d x =
       let is = taken_is y d x.value in
       record { value = is.0; rest = is.1; stays = is.2; no_fault = x.no_fault; fails = tt; mode = x.mode; marked = x.marked }
-  next_taken (Err f) d x = record { value = tt; rest = tt; stays = tt; no_fault = tt; fails = refusal_fails f d x.refused; mode = x.mode; marked = x.marked }
+  next_taken (Err f) d x = record { value = tt; rest = tt; stays = tt; no_fault = tt; fails = refusal_fails f d x.refused.1; mode = x.mode; marked = x.marked }
 
 pub string_taken : {X : Type 0} (t : Tag) (mode : Mode) (w : List ℕ) (e : Encoded) → IsWrittenString t mode w e → IsTakenString X t mode w e
 string_taken {X} t mode w e written = record {

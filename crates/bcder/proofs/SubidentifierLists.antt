@@ -3,7 +3,7 @@ use Rattle.std.proofs.Common.{◌≡◌, ℕ, suc, zero, ◌+◌, ◌-◌, ◌*�
 use Rattle.std.proofs.lemmas.Bool.{lt-ltb, le-ltb}
 use Rattle.bcder.specs.x690.ObjectIdentifier.{subidentifier_number, cut_after, subidentifiers, IsWhole}
 use Rattle.bcder.specs.x690.ObjectIdentifier.{AreSubidentifiers, IsComplete, components_of, components}
-use Rattle.bcder.specs.calls.IdentifierText.{MayBegin}
+use Rattle.bcder.specs.calls.Identifiers.{MayBegin}
 
 -- whole octets are cut off as they stand
 pub cut_whole : (front v x : List ℕ) → IsWhole v → cut_after front (v ++ x) ≡ (front ++ v) ∷ cut_after [] x

@@ -4,6 +4,7 @@ use Rattle.std.proofs.Common.{None, refl, ap, sym, ◌∙◌, arith, length-appe
 use Rattle.std.specs.Prelude.{ℤ, pos, negsuc, Result, Ok, Err}
 use Rattle.std.proofs.lemmas.Bool.{cases_lt, lt-ltb, le-ltb}
 use Rattle.std.proofs.lemmas.List.{append_cancel_left}
+use Rattle.bcder.specs.calls.Readers.{AreNot, NoBits}
 use Rattle.bcder.specs.declared.mode.Mode.{Mode}
 use Rattle.bcder.specs.declared.length.Length.TheVariants.{Definite}
 use Rattle.bcder.specs.declared.decode.content.State.TheVariants.{Open}
@@ -28,18 +29,17 @@ use Rattle.bcder.specs.calls.Meaning.{Encoded, Meaning, ContentsMeaning, IsLawfu
 use Rattle.bcder.specs.calls.Meaning.{truth_octets, fits_primitive, BitsMean, ValueMeans, primitive_encoded, primitive_meaning}
 use Rattle.bcder.specs.declared.oid.Oid.{Oid}
 use Rattle.bcder.specs.x690.ObjectIdentifier.{IsComplete, identifier_tag}
-use Rattle.bcder.specs.calls.ReadIdentifiers.{NoIdentifier}
 use Rattle.bcder.specs.declared.encode.error.EncodeError.{EncodeError}
 use Rattle.bcder.specs.x690.BitString.{Bits, IsBits, bit_string_tag, as_written, IsBitString}
-use Rattle.bcder.specs.calls.ReadBits.{HoldBits, NoBits}
-use Rattle.bcder.specs.calls.ReadBack.{IsReadBack}
+use Rattle.bcder.specs.calls.Readers.{HoldBits}
+use Rattle.bcder.specs.calls.Written.{IsReadBack}
 use Rattle.bcder.specs.calls.Content.{Reading, tagged, IsAbsent, IsElsewhere, none_left, other, marker}
-use Rattle.bcder.specs.calls.Takes.{OneBy, NextBy, HasNone}
+use Rattle.bcder.specs.calls.Calls.{OneBy, NextBy, HasNone}
 use Rattle.bcder.specs.calls.Readers.{MeanNothing, MeanAnother, NoInteger, NoUnsigned, IsThis, IsSigned, IsUnsigned, IsTruth, IsNull}
-use Rattle.bcder.specs.calls.Refusals as refusals
+use Rattle.bcder.specs.calls.Content as refusals
 use Rattle.bcder.specs.calls.Walking.{HasValue}
-use Rattle.bcder.specs.calls.Typed.{InPrimitive, RefusesAs, PassesNextAs}
-use Rattle.bcder.specs.calls.TakenBack.{StandsIn, SourceFailed, SourceFailedOrNoMemory, AnswersLeaving, TakesBack, IsTakenBackBy, IsTakenBack}
+use Rattle.bcder.specs.calls.Valued.{InPrimitive, RefusesAs, PassesNextBy}
+use Rattle.bcder.specs.calls.Written.{StandsIn, SourceFailed, SourceFailedOrNoMemory, AnswersLeaving, TakesBack, IsTakenBackBy, IsTakenBack}
 use Rattle.bcder.specs.laws.Complete.{only_at_front, definite_size}
 use Rattle.bcder.specs.laws.Integers.{integer_octets_are}
 use Rattle.bcder.specs.laws.Meanings.{primitive_lawful, Exactly_lawful, ExactlyOctets_lawful, BitsMean_lawful, truth_octets_are}
@@ -128,21 +128,21 @@ module _ {T X : Type 0} (Fails : Reading → DecodeError X → Reading → Type 
     }
 
     next_answers : (r : Result (Option T) (DecodeError X)) (d : Reading) → NextBy (tagged tag) (TakesTree tag (InPrimitive Means)) (RefusesAs tag Refuses) c r d → AnswersLeaving Fails (Some x) after c r d
-    next_answers (Ok None) d t = absurd (not_none tag c contents w after has_value d t.none)
+    next_answers (Ok None) d t = absurd (not_none tag c contents w after has_value d t.value)
     next_answers (Ok (Some y)) d t =
         let is = taken_is y d t.value in
         record { value = ap Some is.0; rest = is.1; stays = is.2; no_fault = t.no_fault; fails = tt; mode = t.mode; marked = t.marked }
     next_answers (Err e) d t =
-        record { value = tt; rest = tt; stays = tt; no_fault = tt; fails = refusal_fails e d t.refused; mode = t.mode; marked = t.marked }
+        record { value = tt; rest = tt; stays = tt; no_fault = tt; fails = refusal_fails e d t.refused.1; mode = t.mode; marked = t.marked }
 
-    passed_answers : (r : Result T (DecodeError X)) (d : Reading) → PassesNextAs tag Means Refuses c r d → AnswersLeaving Fails x after c r d
+    passed_answers : (r : Result T (DecodeError X)) (d : Reading) → PassesNextBy tag Means Refuses c r d → AnswersLeaving Fails x after c r d
     passed_answers (Ok y) d t = elim t.value [
       | inl v ↦
           (let is = taken_is y d v in record { value = is.0; rest = is.1; stays = is.2; no_fault = t.no_fault; fails = tt; mode = t.mode; marked = t.marked })
       | inr n ↦ absurd (not_none tag c contents w after has_value d n)
     ]
     passed_answers (Err e) d t =
-        record { value = tt; rest = tt; stays = tt; no_fault = tt; fails = refusal_fails e d t.refused; mode = t.mode; marked = t.marked }
+        record { value = tt; rest = tt; stays = tt; no_fault = tt; fails = refusal_fails e d t.refused.1; mode = t.mode; marked = t.marked }
 
     takes_back : TakesBack Fails tag Means Refuses x after c
     takes_back = record { one = one_answers; next = next_answers; passed = passed_answers }
@@ -274,10 +274,10 @@ same_identifier : (a b : Oid (List ℕ)) → a.0 ≡ b.0 → a ≡ b
 same_identifier a b e = rw e refl
 
 pub identifier_taken : {X : Type 0} (y : Oid (List ℕ)) (mode : Mode) → IsComplete y.0 → length y.0 < 2 ^ 32 → AreOctets y.0 → IsTakenBackBy {X = X}
-    SourceFailedOrNoMemory identifier_tag holds_octets NoIdentifier mode (ValueMeans identifier_tag (primitive_meaning identifier_tag) (ExactlyOctets y.0)) y
+    SourceFailedOrNoMemory identifier_tag holds_octets (AreNot IsComplete) mode (ValueMeans identifier_tag (primitive_meaning identifier_tag) (ExactlyOctets y.0)) y
 identifier_taken {X} y mode complete short octets =
     let back = octets_read {T = Oid (List ℕ)} y.0 holds_octets y octets (refl, complete) (λ z p. same_identifier z y p.0) in
-    taken_back_by {T = Oid (List ℕ)} {X = X} SourceFailedOrNoMemory identifier_tag holds_octets NoIdentifier mode y (λ c e d f. inl f) (ExactlyOctets y.0)
+    taken_back_by {T = Oid (List ℕ)} {X = X} SourceFailedOrNoMemory identifier_tag holds_octets (AreNot IsComplete) mode y (λ c e d f. inl f) (ExactlyOctets y.0)
     (universal_value 6 (omega arith) (omega arith)) (ExactlyOctets_lawful y.0) back
     (omega (arith, short, ap length (back.only y.0 (refl, octets)))) (λ c e d r. elim r [
       | inl none ↦ absurd (none.0 (back.read.1))
@@ -342,7 +342,9 @@ module _ {C T X : Type 0} (view : C → Reading) (post : MutBor C → Result T (
 
 pub written_whole : (M : Meaning → Type 0) (lacks : Type 0) (old new : Option (List ℕ)) (a : Encoded) → ((m : Meaning) → M m → m ≡ Ok a)
     → Writes (λ (e : Encoded). e.octets) M lacks old new (Ok tt) → Appends old new a.octets
-written_whole M lacks old new a only (inl w) =
-    let same : w.0 ≡ a = (let e : ◌≡◌ {A = Meaning} (Ok w.0) (Ok a) = only (Ok w.0) w.1 in cc) in
-    subst (λ (z : Encoded). Appends old new z.octets) same w.2.done
-written_whole M lacks old new a only (inr n) = absurd (let e = n.1 in cc)
+written_whole M lacks old new a only h = elim h.went [
+  | inl w ↦
+      let same : w.0 ≡ a = (let e : ◌≡◌ {A = Meaning} (Ok w.0) (Ok a) = only (Ok w.0) w.1 in cc) in
+      subst (λ (z : Encoded). Appends old new z.octets) same w.2.done
+  | inr n ↦ absurd (let e = n.1 in cc)
+]

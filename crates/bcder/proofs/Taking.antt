@@ -14,15 +14,17 @@ use Rattle.bcder.specs.x690.Tree.{Tree}
 use Rattle.bcder.specs.x690.Encoding.{IsHeader, IsEncoding, Header}
 use Rattle.bcder.specs.declared.decode.content.Kind.TheVariants as kind
 use Rattle.bcder.specs.calls.Content.{NothingThere, Reading, ContentForm, Octets, label, values}
-use Rattle.bcder.specs.calls.Content.{Moves, Advances, Asked, IsAsked, HasHeader, Enters}
+use Rattle.bcder.specs.calls.Content.{Moves, Asked, IsAsked, HasHeader}
+use Rattle.bcder.specs.steps.Entering.{Advances, Enters}
 use Rattle.bcder.specs.calls.Calls.{IsFormOf, ContentOf, Hands, Answered, AnswersDone, RefusesContent, by_closure}
-use Rattle.bcder.specs.calls.Calls.{unfinished, TakesContent, TakesValue, RefusesFront, IsInside}
+use Rattle.bcder.specs.calls.Calls.{unfinished, TakesValue, RefusesFront, IsInside}
+use Rattle.bcder.specs.steps.Inside.{TakesContent}
 use Rattle.bcder.specs.steps.Inside.{TakesBehind, of_form, refused, taken}
-use Rattle.bcder.specs.calls.Takes.{HasNone, by_header, by_form, by_content, TakesNext}
+use Rattle.bcder.specs.calls.Calls.{HasNone, by_header, by_form, by_content, TakesNext}
 use Rattle.bcder.specs.laws.Complete.{header_size}
 use Rattle.bcder.proofs.Moving.{moves_value, moves_failed, advances_trans, open_not_ended}
-use Rattle.bcder.specs.calls.Refusals.{Refuses}
-use Rattle.bcder.specs.calls.Refusals as refusals
+use Rattle.bcder.specs.calls.Content.{Refuses}
+use Rattle.bcder.specs.calls.Content as refusals
 use Rattle.bcder.proofs.Entering.{advances_to, header_entered}
 
 or_left : (a b : Bool) → a ≡ true → (a || b) ≡ true

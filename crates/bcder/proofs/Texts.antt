@@ -1,7 +1,7 @@
 -- Texts joined by dots, and identifiers read from them.
 use Rattle.std.proofs.Common.{◌≡◌, ◌≢◌, ℕ, ◌<◌, List, [], ◌∷◌, ◌++◌, length, get_or, ap, sym, ◌∙◌, append_assoc, append-nil, arith, false, suc, nat_eq}
 use Rattle.std.proofs.lemmas.Bool.Decides.{nat_tests}
-use Rattle.bcder.specs.calls.IdentifierText.{split_after, between_dots}
+use Rattle.bcder.specs.calls.Identifiers.{split_after, between_dots}
 
 -- no dot among the octets
 abbrev pub HasNoDot : List ℕ → Type 0

@@ -7,7 +7,7 @@ use Rattle.bcder.specs.declared.decode.violation.Violation.{Violation}
 use Rattle.bcder.specs.x690.Identifier.{AreOctets}
 use Rattle.bcder.specs.x690.Encoding.{Header}
 use Rattle.bcder.specs.calls.Content.{any}
-use Rattle.bcder.specs.calls.Fronts.{BeginsHeader, BeginsEnd}
+use Rattle.bcder.specs.calls.Violations.{BeginsHeader, BeginsEnd}
 use Rattle.bcder.specs.steps.Peek.{Shows, IsPeeked}
 use Rattle.bcder.specs.steps.Reading.{read_header, read_end}
 use Rattle.bcder.specs.laws.Complete.{header_complete}

@@ -23,11 +23,11 @@ use Rattle.bcder.specs.calls.Content.{Reading, ContentForm, Octets, any, tagged,
 use Rattle.bcder.specs.calls.Content.{HasHeader, IsAbsent, IsElsewhere, none_left, other, marker, of_octets}
 use Rattle.bcder.specs.calls.Calls.{Hands, IsFormOf, ContentOf, Answered, TakesValue, RefusesFront, RefusesContent, by_closure}
 use Rattle.bcder.specs.calls.Calls.{unfinished, RefusesEnd, left_failed, source_failed, left_open}
-use Rattle.bcder.specs.calls.Takes.{OneBy, NextBy, HasNone, TakesNext, Takes, RefusesTake, by_header, by_form, by_content}
+use Rattle.bcder.specs.calls.Calls.{OneBy, NextBy, HasNone, TakesNext, Takes, RefusesTake, by_header, by_form, by_content}
 use Rattle.bcder.specs.calls.Walking.{HasValue}
 use Rattle.bcder.specs.calls.Readers.{Reads, RefusesReading}
 use Rattle.bcder.specs.calls.Readers as readers
-use Rattle.bcder.specs.calls.Typed.{InPrimitive, RefusesAs, PassesNextAs}
+use Rattle.bcder.specs.calls.Valued.{InPrimitive, RefusesAs, PassesNextBy}
 use Rattle.bcder.specs.steps.Entering.{HasForm}
 use Rattle.bcder.specs.laws.Complete.{one_header}
 use Rattle.bcder.specs.laws.Sound.{AreOctets-take}
@@ -37,7 +37,7 @@ use Rattle.bcder.proofs.SameBorrow.{within_constructed}
 use Rattle.bcder.proofs.Headers.{Shape, is_primitive, is_definite, is_indefinite, front_of_header, no_header_empty, header_no_marker, no_other_front}
 use Rattle.bcder.proofs.Entering.{Within, no_fewer}
 use Rattle.bcder.proofs.WalkSteps.{owed_after, shape_in, short_front, grew_between}
-use Rattle.bcder.specs.calls.Refusals as refusals
+use Rattle.bcder.specs.calls.Content as refusals
 use Rattle.bcder.proofs.Naming.{behind_header}
 
 -- a header of the tag, as one of any
@@ -284,21 +284,17 @@ module _ {C T X : Type 0} (view : C → Reading) (post : Tag → MutBor C → Re
       → NextBy (tagged tag) (TakesTree tag (InPrimitive (MeansIn c.mode))) (RefusesAs tag (RefusesIn c.mode)) c r d
   next_as c d (Ok (Some x)) w n = record {
     value = taken_as c d w x n.value;
-    none = tt;
     no_fault = taken_faults c d w x n.value;
     refused = tt;
-    failed = tt;
     mode = n.mode;
     marked = taken_marked c d w x n.value;
   }
   next_as c d (Ok None) w n = (let h : HasNone (tagged tag) c d = n.none in
-      record { value = tt; none = h; no_fault = h.no_fault; refused = tt; failed = tt; mode = n.mode; marked = h.marked })
+      record { value = h; no_fault = h.no_fault; refused = tt; mode = n.mode; marked = h.marked })
   next_as c d (Err e) w n = record {
     value = tt;
-    none = tt;
     no_fault = tt;
-    refused = refused_as c d w e n.refused;
-    failed = n.failed;
+    refused = (n.failed, refused_as c d w e n.refused);
     mode = n.mode;
     marked = refused_marked c d w e n.refused;
   }
@@ -316,23 +312,22 @@ module _ {C T X : Type 0} (view : C → Reading) (post : Tag → MutBor C → Re
   }
 
   pub passes_as : (x : T) → ((y : T) → y ≡ x) → (c d : Reading) (o : Option T) → Within c → TakesNext view post (Some true) (tagged tag) c (Ok o) d
-      → PassesNextAs tag (MeansIn c.mode) (RefusesIn c.mode) c (Ok x) d
+      → PassesNextBy tag (MeansIn c.mode) (RefusesIn c.mode) c (Ok x) d
   passes_as x only c d (Some y) w n =
       record {
         value = inl (subst (λ z. TakesTree tag (InPrimitive (MeansIn c.mode)) c z d) (only y) (taken_as c d w y n.value));
         no_fault = taken_faults c d w y n.value;
         refused = tt;
-        failed = tt;
         mode = n.mode;
         marked = taken_marked c d w y n.value;
       }
   passes_as x only c d None w n = (let h : HasNone (tagged tag) c d = n.none in
-      record { value = inr h; no_fault = h.no_fault; refused = tt; failed = tt; mode = n.mode; marked = h.marked })
+      record { value = inr h; no_fault = h.no_fault; refused = tt; mode = n.mode; marked = h.marked })
 
   pub refuses_as : (c d : Reading) (e : DecodeError X) → Within c → TakesNext view post (Some true) (tagged tag) c (Err e) d
-      → PassesNextAs tag (MeansIn c.mode) (RefusesIn c.mode) c (Err e) d
+      → PassesNextBy tag (MeansIn c.mode) (RefusesIn c.mode) c (Err e) d
   refuses_as c d e w n =
-      record { value = tt; no_fault = tt; refused = refused_as c d w e n.refused; failed = n.failed; mode = n.mode; marked = refused_marked c d w e n.refused }
+      record { value = tt; no_fault = tt; refused = (n.failed, refused_as c d w e n.refused); mode = n.mode; marked = refused_marked c d w e n.refused }
 
 -- contents octets, as the calls see them
 pub octets_form : {S : Type 0} (stream : S → Stream) (x : Primitive S) → ((of_primitive stream x).kind ≡ Octets) × ((of_primitive stream x).state ≡ Open)

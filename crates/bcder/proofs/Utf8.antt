@@ -11,7 +11,7 @@ use Rattle.std.specs.Int.{is_in_range}
 use Rattle.std.specs.Str.{IsAscii, IsUtf8, chars}
 use Rattle.bcder.specs.declared.string.restricted.char_set.CharSetError.{CharSetError}
 use Rattle.bcder.specs.x690.CharSet.{Front, Spells, IsOfSet}
-use Rattle.bcder.specs.calls.CharSetCalls.{NextChar}
+use Rattle.bcder.specs.calls.RestrictedString.{NextChar}
 use Rattle.bcder.specs.x690.Utf8.{Lead, lead, six_more, read_tails, read_behind, read_led, utf8_step}
 use Rattle.bcder.specs.laws.Utf8.{utf8_accepts, encodes_utf8}
 

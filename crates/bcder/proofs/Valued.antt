@@ -22,7 +22,7 @@ use Rattle.bcder.specs.calls.Content.{NothingThere, Reading, ContentForm, values
 use Rattle.bcder.specs.calls.Content.{tagged, label, HasHeader, HasMarker, IsDone}
 use Rattle.bcder.specs.calls.Calls.{Hands, IsFormOf, ContentOf, Answered, TakesValue, RefusesFront, RefusesContent}
 use Rattle.bcder.specs.calls.Calls.{by_closure, unfinished, RefusesEnd, left_failed, source_failed, left_open}
-use Rattle.bcder.specs.calls.Takes.{HasNone, TakesNext, RefusesTake, by_header, by_form, by_content}
+use Rattle.bcder.specs.calls.Calls.{HasNone, TakesNext, RefusesTake, by_header, by_form, by_content}
 use Rattle.bcder.specs.calls.Walking.{HasValue, HasValues, ClosesBefore}
 use Rattle.bcder.specs.calls.Valued.{HoldsOctets, HoldsValues, HoldsTree, ReadsTree, NeedsMemory, RefusesToRead, ReadsContent, ReadsAny, tag_of, RefusesTree}
 use Rattle.bcder.specs.calls.Valued.{TakesTree, WantsMemoryFor, TakesNextTree, TakesOneTree}
@@ -32,8 +32,8 @@ use Rattle.bcder.proofs.Moving.{open_not_ended, open_not_failed}
 use Rattle.bcder.proofs.Entering.{Within, no_fewer}
 use Rattle.bcder.proofs.WalkSteps.{owed_after, done_here, grew_between}
 use Rattle.bcder.proofs.Typed.{header_not_absent, or_false, handed_value, handed_before}
-use Rattle.bcder.specs.calls.Refusals as refusals
-use Rattle.bcder.specs.calls.Refusals.{Refuses}
+use Rattle.bcder.specs.calls.Content as refusals
+use Rattle.bcder.specs.calls.Content.{Refuses}
 use Rattle.bcder.proofs.Naming.{behind_header}
 
 -- ---- content is that of one value at most
@@ -221,17 +221,17 @@ refused_header tag Means c d w e (refusals.Refuses.nothing n a) = refusals.Refus
 -- what the calls say where none was
 module _ {T X : Type 0} (tag : Tag) (Means : Tree → T → Type 0) (c d : Reading) where
   pub no_tree : d.mode ≡ c.mode → HasNone (tagged tag) c d → TakesNextTree tag Means {X = X} c (Ok None) d
-  no_tree m h = record { value = tt; none = h; no_fault = h.no_fault; refused = tt; failed = tt; mode = m; marked = h.marked }
+  no_tree m h = record { value = h; no_fault = h.no_fault; refused = tt; mode = m; marked = h.marked }
 
   pub stopped_tree : Within c → d.mode ≡ c.mode → (e : DecodeError X) → Refuses cause_of (tagged tag) (NothingThere (tagged tag)) ⊥ c e d
       → d.marked ≡ c.marked → d.state ≡ Failed
       → TakesNextTree tag Means c (Err e) d
-  stopped_tree w m e h k f = record { value = tt; none = tt; no_fault = tt; refused = refused_header tag Means c d w e h; failed = f; mode = m; marked = k }
+  stopped_tree w m e h k f = record { value = tt; no_fault = tt; refused = (f, refused_header tag Means c d w e h); mode = m; marked = k }
 
 -- a call that needs the value is refused as one that answers that there is none
 pub one_not_taken : {T X : Type 0} (tag : Tag) (Means : Tree → T → Type 0) (c d : Reading) (e : DecodeError X) → TakesNextTree tag Means c (Err e) d
     → TakesOneTree tag Means c (Err e) d
-one_not_taken tag Means c d e h = record { value = tt; no_fault = tt; refused = inr (h.failed, h.refused); mode = h.mode; marked = h.marked }
+one_not_taken tag Means c d e h = record { value = tt; no_fault = tt; refused = inr h.refused; mode = h.mode; marked = h.marked }
 
 not_done : (l : Reading) → l.state ≡ Failed → IsDone l → ⊥
 not_done l e (inl h) = (let x : ◌≡◌ {A = State} Failed Ended = sym e ∙ h in cc)
@@ -351,20 +351,16 @@ module _ {C T X : Type 0} (view : C → Reading) (post : Tag → MutBor C → Re
       → TakesNextTree tag (Means c.mode) c r d
   next_tree c d (Ok (Some x)) w n = record {
     value = taken c d x n.value;
-    none = tt;
     no_fault = taken_faults c d x n.value;
     refused = tt;
-    failed = tt;
     mode = n.mode;
     marked = taken_marked c d x n.value;
   }
   next_tree c d (Ok None) w n = no_tree tag (Means c.mode) c d n.mode n.none
   next_tree c d (Err e) w n = record {
     value = tt;
-    none = tt;
     no_fault = tt;
-    refused = refused_tree c d w e n.refused;
-    failed = n.failed;
+    refused = (n.failed, refused_tree c d w e n.refused);
     mode = n.mode;
     marked = refused_marked c d w e n.refused;
   }

@@ -1,6 +1,6 @@
 -- What a call that walks its content says of the value.
 use Rattle.std.proofs.Common.{◌≡◌, true, false, ◌++◌, Option, Some, None, sym, ◌∙◌, append_assoc, subst, inl, inr}
-use Rattle.std.specs.Prelude.{◌⊎◌, Result, Ok, Err, IfOk, IfErr, IfSome, IfNone, is_some}
+use Rattle.std.specs.Prelude.{MatchOption, ◌⊎◌, Result, Ok, Err, IfOk, IfErr, IfSome, IfNone, is_some}
 use Rattle.std.specs.Borrow.{MutBor}
 use Rattle.bcder.specs.x690.Identifier.{Tag}
 use Rattle.bcder.specs.x690.Encoding.{IsEncoding}
@@ -15,8 +15,8 @@ use Rattle.bcder.specs.steps.WalkSteps.{NoValue, WalksBy}
 use Rattle.bcder.specs.laws.Complete.{only_at_front}
 use Rattle.bcder.proofs.Entering.{Within, header_not_at_end, no_fewer}
 use Rattle.bcder.proofs.Naming.{behind_header}
-use Rattle.bcder.specs.calls.Refusals as refusals
-use Rattle.bcder.specs.calls.Refusals.{Refuses}
+use Rattle.bcder.specs.calls.Content as refusals
+use Rattle.bcder.specs.calls.Content.{Refuses}
 use Rattle.bcder.proofs.WalkSteps.{no_next, no_value_of_nothing, end_of_nothing, refused_inside, refused_end as refused_left}
 
 abbrev pub WalksContent : {C T E : Type 0} → (E → Cause ContentError) → (C → Reading) → (Tag → MutBor C → Result T E → MutBor C → Type 0) → Type 0
@@ -81,6 +81,14 @@ module _ {C T E : Type 0} (why : E → Cause ContentError) (view : C → Reading
   walks_one c d (Err e) h = tt
 
 -- ---- what a call answered
+
+pub value_there : {T : Type 0} (N P : Type 0) (o : Option T) → true ≡ is_some o → MatchOption o N (λ _. P) → P
+value_there N P None e h = (let x : true ≡ false = e in cc)
+value_there N P (Some x) e h = h
+
+pub none_there : {T : Type 0} (N P : Type 0) (o : Option T) → false ≡ is_some o → MatchOption o N (λ _. P) → N
+none_there N P None e h = h
+none_there N P (Some x) e h = (let y : false ≡ true = e in cc)
 
 pub some_value : {T : Type 0} (P : Type 0) (o : Option T) → true ≡ is_some o → IfSome o (λ _. P) → P
 some_value P None e h = (let x : true ≡ false = e in cc)

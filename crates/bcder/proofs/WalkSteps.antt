@@ -1,7 +1,7 @@
 -- Walking finds the values that are there, and no others.
 use Rattle.std.proofs.Common.{◌≡◌, ◌≢◌, ℕ, ◌+◌, ◌-◌, ◌<◌, ◌≤◌, Bool, true, false, List, [], ◌++◌, length, take, Option, Some, None}
 use Rattle.std.proofs.Common.{refl, ap, sym, ◌∙◌, arith, length-append, append_assoc, append-nil, subst, inl, inr}
-use Rattle.std.specs.Prelude.{◌⊎◌, Result, Ok, Err, IsErrAnd}
+use Rattle.std.specs.Prelude.{◌⊎◌, Result, Ok, Err, IsErrAnd, OnOk, IfErr}
 use Rattle.std.proofs.lemmas.List.{take_at}
 use Rattle.bcder.specs.declared.mode.Mode.{Mode}
 use Rattle.bcder.specs.declared.length.Length.{Length}
@@ -25,8 +25,8 @@ use Rattle.bcder.specs.laws.Moved.{moved_keeps_kind, untouched_is_moved, moved_t
 use Rattle.bcder.proofs.Moving.{open_not_ended, open_not_failed}
 use Rattle.bcder.proofs.Headers.{header_of, Shape, shape, is_primitive, is_definite, is_indefinite}
 use Rattle.bcder.proofs.Entering.{Within, header_not_at_end}
-use Rattle.bcder.specs.calls.Refusals as refusals
-use Rattle.bcder.specs.calls.Refusals.{Refuses}
+use Rattle.bcder.specs.calls.Content as refusals
+use Rattle.bcder.specs.calls.Content.{Refuses}
 use Rattle.bcder.specs.steps.WalkSteps.{NoValue}
 use Rattle.bcder.proofs.Naming.{looked_alike, header_alike, front_named}
 
@@ -232,7 +232,12 @@ pub all_refused : {T E : Type 0} (Refuses : Reading → E → Reading → Type 0
     → d.state ≡ Failed → d.mode ≡ c.mode → d.marked ≡ c.marked → AllBy Refuses c r d
 all_refused Refuses c d (Ok x) e h a f m g = absurd h
 all_refused Refuses c d (Err x) e h a f m g =
-    record { all = tt; done = tt; no_fault = tt; refused = subst (λ y. Refuses c y d) (sym h) a; failed = f; mode = m; marked = g }
+    record { value = tt; no_fault = tt; refused = (f, subst (λ y. Refuses c y d) (sym h) a); mode = m; marked = g }
+
+pub stopped_at_error : {T E : Type 0} (Refuses : Reading → E → Reading → Type 0) (c d : Reading) (r : Result T E) (e : E) → IsErrAnd r (λ x. x ≡ e)
+    → Refuses c e d → (P : Type 0) → OnOk r P × IfErr r (λ x. Refuses c x d)
+stopped_at_error Refuses c d (Ok x) e h a P = absurd h
+stopped_at_error Refuses c d (Err x) e h a P = (tt, subst (λ y. Refuses c y d) (sym h) a)
 
 -- at the end no values are left
 pub none_left : (c : Reading) (after : List ℕ) → c.kind ≢ Octets → IsAtEnd c after → HasValues c

@@ -35,13 +35,20 @@ module _ (t : Tag) (mode : Mode) (P : Meaning → Type 0) where
 
   appends : (lacks : Type 0) (old new : Option (List ℕ)) (r : Result (Unit {0}) WriteError) → WritesEncodings mode (ValueMeans t (constructed_meaning t mode) P)
       → Writes (λ (e : Encoded). e.octets) (ValueMeans t (constructed_meaning t mode) P) lacks old new r → AppendsConstructed t mode old new r
-  appends lacks old new (Ok u) encodes (inl w) = (w.0.octets, means_constructed encodes w.0 w.1, w.2.done)
-  appends lacks old new (Ok u) encodes (inr n) = absurd (let e = n.1 in cc)
-  appends lacks old new (Err (Target e)) encodes (inl w) =
-      let d = w.2.done in
-      inr (w.0.octets, means_constructed encodes w.0 w.1, record { front = d.front; rest = d.rest; appends = d.appends; whole = d.whole })
-  appends lacks old new (Err (Refused e)) encodes (inl w) = inr (w.0.octets, means_constructed encodes w.0 w.1, w.2.done.2)
-  appends lacks old new (Err e) encodes (inr n) = inl n.3
+  appends lacks old new (Ok u) encodes h = elim h.went [
+    | inl w ↦ (w.0.octets, means_constructed encodes w.0 w.1, w.2.done)
+    | inr n ↦ absurd (let e = n.1 in cc)
+  ]
+  appends lacks old new (Err (Target e)) encodes h = elim h.went [
+    | inl w ↦
+        let d = w.2.done in
+        inr (w.0.octets, means_constructed encodes w.0 w.1, record { front = d.front; rest = d.rest; appends = d.appends; whole = d.whole })
+    | inr n ↦ inl n.3
+  ]
+  appends lacks old new (Err (Refused e)) encodes h = elim h.went [
+    | inl w ↦ inr (w.0.octets, means_constructed encodes w.0 w.1, w.2.done.2)
+    | inr n ↦ inl n.3
+  ]
 
 -- by an encoder whose tag is known
 pub wrote_constructed : {W : Type 0} {contents : W → Option (List ℕ)} {target : Both (MutBor W) (MutBor W)} {u : Tag} {mode : Mode}
@@ -58,5 +65,7 @@ pub wants_where_it_lacks : {A : Type 0} {octets : A → List ℕ} {M : Result A 
     (r : Result (Unit {0}) WriteError) → Writes octets M lacks old new r → IfErr r (λ e. e ≡ Refused NoMemory → lacks)
 wants_where_it_lacks (Ok u) w = tt
 wants_where_it_lacks (Err (Target e)) w = λ is. cc
-wants_where_it_lacks (Err (Refused e)) (inl w) = λ is. w.2.done.1
-wants_where_it_lacks (Err (Refused e)) (inr n) = λ is. n.2.lacking (let at = n.1 in cc)
+wants_where_it_lacks (Err (Refused e)) h = λ is. elim h.went [
+  | inl w ↦ w.2.done.1
+  | inr n ↦ n.2.lacking (let at = n.1 in cc)
+]

@@ -105,11 +105,13 @@ module _ {A : Type 0} (M : Result A EncodeError → Type 0) (one : (m n : Result
   -- where a is meant, a writing is one of a
   pub wrote_what : (octets : A → List ℕ) (lacks : Type 0) (a : A) (old new : Option (List ℕ)) (r : Result (Unit {0}) WriteError) → M (Ok a)
       → Writes octets M lacks old new r → WroteOf lacks (octets a) old new r
-  wrote_what octets lacks a old new r m (inl h) = subst (λ x. WroteOf lacks (octets x) old new r) (same_ok h.0 a h.1 m) h.2
-  wrote_what octets lacks a old new r m (inr h) = elim (is_no_memory h.0) [
-    | inl e ↦ subst (λ x. WroteOf lacks (octets a) old new x) (sym h.1)
-        (record { done = (e, h.2.lacking e, record { front = []; rest = octets a; appends = Keeps-Appends old new h.3; whole = refl }) })
-    | inr ne ↦ absurd (never_refused a h.0 m (h.2.meant ne))
+  wrote_what octets lacks a old new r m w = elim w.went [
+    | inl h ↦ subst (λ x. WroteOf lacks (octets x) old new r) (same_ok h.0 a h.1 m) h.2
+    | inr h ↦ elim (is_no_memory h.0) [
+      | inl e ↦ subst (λ x. WroteOf lacks (octets a) old new x) (sym h.1)
+          (record { done = (e, h.2.lacking e, record { front = []; rest = octets a; appends = Keeps-Appends old new h.3; whole = refl }) })
+      | inr ne ↦ absurd (never_refused a h.0 m (h.2.meant ne))
+    ]
   ]
 
   -- and a refusal is want of memory, before anything is written

@@ -12,8 +12,8 @@ use Rattle.bcder.specs.x690.Octets.{header, definite}
 use Rattle.bcder.specs.calls.Encoders.{RefusesBy}
 use Rattle.bcder.specs.x690.BitString.{Bits, IsBits, bits, cleared, contents_octets, as_written, MayHave, BitShape, IsBitString}
 use Rattle.bcder.specs.calls.Meaning.{fits_primitive, BitsMean}
-use Rattle.bcder.specs.calls.ReadBack.{IsReadBack}
-use Rattle.bcder.specs.calls.ReadBits.{HoldBits}
+use Rattle.bcder.specs.calls.Written.{IsReadBack}
+use Rattle.bcder.specs.calls.Readers.{HoldBits}
 use Rattle.std.proofs.lemmas.Nat.{shr_high, pow_pos}
 use Rattle.std.proofs.lemmas.Bool.{leb-true}
 use Rattle.bcder.proofs.Bits.{cleared_length, cleared_push, as_many_octets, written_octets}

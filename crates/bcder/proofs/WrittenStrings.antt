@@ -21,7 +21,7 @@ use Rattle.bcder.specs.x690.OctetString.{segments_of, flat, MayBeWhole, FollowFu
 use Rattle.bcder.specs.calls.Meaning.{Encoded, Meaning, IsLawful, ValueMeans, primitive_meaning, constructed_meaning}
 use Rattle.bcder.specs.calls.Meaning.{primitive_encoded, constructed_encoded, fits_enclosed, enclosed_refusal}
 use Rattle.bcder.specs.calls.StringMeaning.{full_segments, segmented, segments_in_cer, is_cut, string_meaning, OctetsMean, StringMeans, WrappedMeans}
-use Rattle.bcder.specs.calls.WrittenStrings.{IsWrittenString, WritesString, WritesShort, contents_count, WritesAlike, IsMadeUp}
+use Rattle.bcder.specs.calls.Written.{IsWrittenString, WritesString, WritesShort, contents_count, WritesAlike, IsMadeUp}
 use Rattle.bcder.specs.calls.Valued.{tag_of}
 use Rattle.bcder.specs.laws.Complete.{one_list}
 use Rattle.bcder.specs.laws.StringMeanings.{OctetsMean_lawful, StringMeans_lawful}

@@ -22,3 +22,4 @@ pub mod StringMeanings
 pub mod CharSets
 pub mod Utf8
 pub mod Exactly
+pub mod Composed

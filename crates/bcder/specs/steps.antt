@@ -19,3 +19,5 @@ pub mod Buffer
 pub mod Segmenting
 pub mod StringSources
 pub mod Utf8Leads
+pub mod CaptureSteps
+pub mod Zeros

@@ -7,7 +7,7 @@ ghost use Rattle.bcder.specs.calls.Calls.{MayBeCalledOn, IsLawfulOn};
 ghost use Rattle.bcder.specs.calls.Cause.{cause_of};
 ghost use Rattle.bcder.specs.calls.Decoding.{IsAllOf, Decodes, RefusesDecode};
 ghost use Rattle.bcder.specs.calls.Stream.{Stream};
-ghost use Rattle.bcder.specs.calls.DecodingAll.{DecodesWhole, RefusesWhole};
+ghost use Rattle.bcder.specs.calls.Decoding.{DecodesWhole, RefusesWhole};
 ghost use Rattle.bcder.specs.calls.Views.{of_constructed};
 ghost use Rattle.bcder.specs.calls.Gathered.{none_kept, from_start, GathersValues};
 

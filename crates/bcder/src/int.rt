@@ -7,8 +7,8 @@ ghost use Rattle.bcder.specs.x690.Integer.{AreInteger, IsSmallest, integer_octet
 ghost use Rattle.bcder.specs.x690.Integer.{integer_order, same_sign_order};
 ghost use Rattle.bcder.specs.x690.Number.{ConvertsTo};
 ghost use Rattle.bcder.specs.calls.Readers.{ReadBy, ReadOctets, IsSigned, MeanNothing, NoInteger};
-ghost use Rattle.bcder.specs.calls.Typed.{TookOneBy};
-ghost use Rattle.bcder.specs.calls.Views.{Moved, MovedOctets};
+ghost use Rattle.bcder.specs.calls.Valued.{TakesOneBy};
+ghost use Rattle.bcder.specs.calls.Views.{Moved, MovedOctets, of_constructed};
 
 mod compare;
 mod convert;
@@ -105,8 +105,8 @@ impl Integer {
         cons: &mut Constructed<'_, S>,
     ) -> Result<Integer, DecodeError<S::Error>>
         ensures moves { Moved S.stream cons }
-        ensures took { TookOneBy S.stream cons integer_tag
-            (λ w z. AreInteger z w) NoInteger result }
+        ensures took { TakesOneBy integer_tag (λ w z. AreInteger z w) NoInteger
+            (of_constructed S.stream cons.old) result (of_constructed S.stream cons.new) }
     {
         cons.take_primitive_if(
             Tag::INTEGER,

@@ -3,7 +3,7 @@ ghost use Rattle.std.specs.Prelude.{◌≡◌, ◌↔◌, ◌≤◌, ◌++◌, �
 ghost use Rattle.bcder.specs.calls.Calls.{MayBeCalledOn, IsLawfulOn};
 ghost use Rattle.bcder.specs.calls.Cause.{cause_of};
 ghost use Rattle.bcder.specs.calls.Decoding.{IsAllOf, IsAllBehind, Decodes, RefusesDecode};
-ghost use Rattle.bcder.specs.calls.DecodingAll.{DecodesWhole, RefusesWhole};
+ghost use Rattle.bcder.specs.calls.Decoding.{DecodesWhole, RefusesWhole};
 ghost use Rattle.bcder.specs.calls.Stream.{Stream, borrowed};
 ghost use Rattle.bcder.specs.calls.Views.{of_constructed, lent};
 

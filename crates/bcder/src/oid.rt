@@ -5,14 +5,15 @@ ghost use Rattle.std.specs.Cmp.Lexicographic.{pointwise, nat_list_eq_equiv};
 ghost use Rattle.std.specs.Cmp.{partial_equiv_from_equiv, on_per, on_equiv};
 ghost use Rattle.std.specs.Cmp.Rules.{hashing};
 ghost use Rattle.std.proofs.Common.{rules};
+ghost use Rattle.bcder.specs.calls.Readers.{AreNot};
 ghost use Rattle.bcder.specs.x690.ObjectIdentifier.{identifier_tag, IsComplete, IsMinimal};
-ghost use Rattle.bcder.specs.calls.Components.{component_parts};
-ghost use Rattle.bcder.specs.calls.Components.{parts_left};
-ghost use Rattle.bcder.specs.calls.IdentifierText.{text_of, IsTextOf, RefusesText};
-ghost use Rattle.bcder.specs.calls.ReadIdentifiers.{HoldIdentifier, IsSame, NoIdentifier};
+ghost use Rattle.bcder.specs.calls.Identifiers.{component_parts};
+ghost use Rattle.bcder.specs.calls.Identifiers.{parts_left};
+ghost use Rattle.bcder.specs.calls.Identifiers.{text_of, IsTextOf, RefusesText};
+ghost use Rattle.bcder.specs.calls.Readers.{HoldIdentifier, IsSame};
 ghost use Rattle.bcder.specs.calls.Readers.{ReadBy, ReadOctets};
-ghost use Rattle.bcder.specs.calls.Typed.{TookNextAs, TookNextBy, TookOneAs, TookOneBy};
-ghost use Rattle.bcder.specs.calls.Views.{Moved, MovedOctets};
+ghost use Rattle.bcder.specs.calls.Valued.{TakesNextAs, TakesNextBy, TakesOneAs, TakesOneBy};
+ghost use Rattle.bcder.specs.calls.Views.{Moved, MovedOctets, of_constructed};
 
 pub(crate) mod components;
 mod text;
@@ -59,7 +60,8 @@ impl<T: AsSlice<u8>> Oid<T> {
         cons: &mut Constructed<'_, S>,
     ) -> Result<(), DecodeError<S::Error>>
         ensures moves { Moved S.stream cons }
-        ensures took { TookOneAs S.stream cons identifier_tag (IsSame (T.items self.now.0)) result }
+        ensures took { TakesOneAs identifier_tag (IsSame (T.items self.now.0))
+            (of_constructed S.stream cons.old) result (of_constructed S.stream cons.new) }
     {
         let expected = self.0.as_slice();
         cons.take_primitive_if(Tag::OID, |octets| octets.skip_same(expected))
@@ -105,7 +107,8 @@ impl Oid<Bytes> {
     /// that returns `None`. The content then stays usable.
     pub fn skip_in<S: Source>(cons: &mut Constructed<'_, S>) -> Result<(), DecodeError<S::Error>>
         ensures moves { Moved S.stream cons }
-        ensures took { TookOneAs S.stream cons identifier_tag HoldIdentifier result }
+        ensures took { TakesOneAs identifier_tag HoldIdentifier (of_constructed S.stream cons.old)
+            result (of_constructed S.stream cons.new) }
     {
         cons.take_primitive_if(Tag::OID, |octets| octets.skip_identifier())
     }
@@ -125,7 +128,8 @@ impl Oid<Bytes> {
         cons: &mut Constructed<'_, S>,
     ) -> Result<Option<()>, DecodeError<S::Error>>
         ensures moves { Moved S.stream cons }
-        ensures took { TookNextAs S.stream cons identifier_tag HoldIdentifier result }
+        ensures took { TakesNextAs identifier_tag HoldIdentifier (of_constructed S.stream cons.old)
+            result (of_constructed S.stream cons.new) }
     {
         cons.take_opt_primitive_if(Tag::OID, |octets| octets.skip_identifier())
     }
@@ -143,8 +147,8 @@ impl Oid<Bytes> {
         cons: &mut Constructed<'_, S>,
     ) -> Result<Self, DecodeError<S::Error>>
         ensures moves { Moved S.stream cons }
-        ensures took { TookOneBy S.stream cons identifier_tag
-            (λ w oid. (oid.0 ≡ w) × IsComplete w) NoIdentifier result }
+        ensures took { TakesOneBy identifier_tag (λ w oid. (oid.0 ≡ w) × IsComplete w) (AreNot IsComplete)
+            (of_constructed S.stream cons.old) result (of_constructed S.stream cons.new) }
     {
         cons.take_primitive_if(Tag::OID, |octets| Oid::from_primitive(alloc, octets))
     }
@@ -162,8 +166,8 @@ impl Oid<Bytes> {
         cons: &mut Constructed<'_, S>,
     ) -> Result<Option<Self>, DecodeError<S::Error>>
         ensures moves { Moved S.stream cons }
-        ensures took { TookNextBy S.stream cons identifier_tag
-            (λ w oid. (oid.0 ≡ w) × IsComplete w) NoIdentifier result }
+        ensures took { TakesNextBy identifier_tag (λ w oid. (oid.0 ≡ w) × IsComplete w) (AreNot IsComplete)
+            (of_constructed S.stream cons.old) result (of_constructed S.stream cons.new) }
     {
         cons.take_opt_primitive_if(Tag::OID, |octets| Oid::from_primitive(alloc, octets))
     }
@@ -197,7 +201,7 @@ impl Oid<Bytes> {
     ) -> Result<Self, DecodeError<S::Error>>
         ensures moves { MovedOctets S.stream octets }
         ensures read { ReadBy S.stream octets
-            (λ w oid. (oid.0 ≡ w) × IsComplete w) NoIdentifier result }
+            (λ w oid. (oid.0 ≡ w) × IsComplete w) (AreNot IsComplete) result }
     {
         match octets.take_identifier(alloc) {
             Ok(octets) => Ok(Oid(octets)),

@@ -10,7 +10,7 @@ ghost use Rattle.bcder.specs.declared.mode.Mode.{Mode as ModeValue};
 ghost use Rattle.bcder.specs.x690.Tree.{Tree, Trees};
 ghost use Rattle.bcder.specs.x690.Length.{IsEndOfContents};
 ghost use Rattle.bcder.specs.x690.Encoding.{IsEncoding, AreEncodings, IsHeader};
-ghost use Rattle.bcder.specs.calls.ContentsLen.{length_of};
+ghost use Rattle.bcder.specs.calls.Content.{length_of};
 ghost use Rattle.bcder.specs.x690.Identifier.{Tag as TagValue};
 ghost use Rattle.bcder.specs.x690.Identifier.{is_value_tag};
 ghost use Rattle.bcder.specs.steps.Peek.{len_of};

@@ -9,7 +9,7 @@ ghost use Rattle.bcder.specs.x690.Identifier.{private as private_class};
 ghost use Rattle.bcder.specs.x690.Identifier.{is_value_tag};
 ghost use Rattle.bcder.specs.steps.Reading.{class_of, is_marked, read_identifier};
 ghost use Rattle.bcder.specs.steps.Reading.{read_number, second_digit, third_digit};
-ghost use Rattle.bcder.specs.calls.Classes.{class_meant};
+ghost use Rattle.bcder.specs.calls.TagText.{class_meant};
 
 mod display;
 
@@ -42,7 +42,7 @@ impl Model for Tag {
 
     ghost Value = { TagValue };
 
-    ghost use Rattle.bcder.specs.calls.Classes.{class_meant, class_kept};
+    ghost use Rattle.bcder.specs.calls.TagText.{class_meant, class_kept};
 
     ghost view = { λ a. record { class = class_meant a.class; number = a.number } };
 

@@ -2,7 +2,7 @@
 use Rattle.std.proofs.Common.{◌≡◌, ◌≢◌, ◌⊎◌, inl, inr, ℕ, List, [], ◌++◌, Option, Some, None, refl, sym, ap, subst, ◌∙◌, append_assoc, append-nil}
 use Rattle.std.proofs.KnownBytes.{Appends-trans, Keeps-refl, Keeps-trans}
 use Rattle.std.specs.Io.KnownBytes.{Appends, Keeps}
-use Rattle.bcder.specs.calls.Target.{AppendsShorter}
+use Rattle.bcder.specs.calls.Encoders.{AppendsShorter}
 use Rattle.cli.specs.Shown.{IsLine}
 use Rattle.cli.specs.Told.{Tells}
 use Rattle.cli.specs.declared.status.Status.{Status}

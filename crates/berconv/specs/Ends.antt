@@ -5,7 +5,7 @@ use denote.Ref.{Bor}
 use Rattle.bcder.specs.declared.mode.Mode.{Mode}
 use Rattle.bcder.specs.declared.mode.Mode.TheVariants.{Ber, Cer, Der}
 use Rattle.bcder.specs.calls.Captured.{AreWhole}
-use Rattle.bcder.specs.calls.Target.{AppendsFront}
+use Rattle.bcder.specs.calls.Encoders.{AppendsFront}
 use Rattle.cli.specs.declared.files.Input.{Input}
 use Rattle.cli.specs.declared.pem.Block.{Block}
 use Rattle.cli.specs.declared.pem.BlockError.{BlockError}

@@ -1,6 +1,6 @@
 -- Why something isn't converted, and how it is said.
 use Rattle.std.specs.Prelude.{◌⊎◌, ℕ, zero, suc, List, [], ◌++◌, ◌==◌, if◌then◌else◌, Option, codes, decimal}
-use Rattle.bcder.specs.calls.Target.{AppendsFront}
+use Rattle.bcder.specs.calls.Encoders.{AppendsFront}
 use Rattle.encodings.specs.Status.{beyond, ended}
 use Rattle.berconv.specs.declared.refusal.Refusal.{Refusal}
 use Rattle.berconv.specs.declared.refusal.Refusal.TheVariants.{NoValues, NotConverted, NoMemory, NoBlock, Unended}

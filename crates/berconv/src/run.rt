@@ -1,7 +1,7 @@
 //! Converts what was read.
 ghost use Rattle.std.specs.Prelude.{◌≡◌, ◌++◌, [], ℕ, List, OnOk, OnErr, IfOk, IfErr};
 ghost use Rattle.std.specs.Io.KnownBytes.{Appends};
-ghost use Rattle.bcder.specs.calls.Target.{AppendsFront};
+ghost use Rattle.bcder.specs.calls.Encoders.{AppendsFront};
 ghost use Rattle.encodings.specs.Conversion.{IsConversion};
 ghost use Rattle.encodings.specs.Values.{AreNoValues};
 ghost use Rattle.cli.specs.Pem.{AreBlocks, HasOctets};

@@ -16,9 +16,9 @@ use Rattle.bcder.specs.calls.Stream.{Stream, Grew}
 use Rattle.bcder.specs.declared.decode.content.Kind.TheVariants as kind
 use Rattle.bcder.specs.calls.Content.{Reading, IsDone, values}
 use Rattle.bcder.specs.calls.Walking.{ClosesBefore, HasValues, RefusesValues, AllBy}
-use Rattle.bcder.specs.calls.Skipping.{RefusesSkipAll}
-use Rattle.bcder.specs.calls.Skipping as skipping
-use Rattle.bcder.specs.calls.Refusals as refusals
+use Rattle.bcder.specs.calls.Walking.{RefusesSkipAll}
+use Rattle.bcder.specs.calls.Walking as skipping
+use Rattle.bcder.specs.calls.Content as refusals
 use Rattle.bcder.specs.calls.Decoding.{IsAllOf, Decodes, RefusesOn, RefusesDecode}
 use Rattle.bcder.specs.calls.Decoding as decoding
 use Rattle.bcder.specs.calls.Views.{of_constructed}
@@ -117,7 +117,7 @@ module _ {C T S : Type 0} (view : C → Reading) (post : MutBor C → Result T (
   pub skipped_list : (x : T) (s' : Stream) → Decodes view post s mode x s' → IsList mode s.rest
   skipped_list x s' d =
       let g = k d.answered.handed (Ok x) d.answered.left d.answered.called in
-      all_of d.handed d.over (subst (λ z. z.state ≡ Open → HasValues z) d.answered.handed_is g.all)
+      all_of d.handed d.over (subst (λ z. z.state ≡ Open → HasValues z) d.answered.handed_is g.value.0)
 
   no_values : (e : DecodeError S) (i j : Reading) → (cause_of e ≡ of_memory → ⊥) → IsAllOf s mode i → j.stream.faults ≡ 0 → RefusesValues cause_of i e j
       → IsNoList mode s.rest
@@ -136,8 +136,8 @@ module _ {C T S : Type 0} (view : C → Reading) (post : MutBor C → Result T (
       let g = k a.handed (Err e) a.left a.called in
       let f = ap (λ (z : Reading). z.stream.faults) (sym a.left_is) ∙ faultless a.left.now in
       none_skipped e i j n o f (subst (λ z. skipping.RefusesSkipAll cause_of i e z) a.left_is
-      (subst (λ z. skipping.RefusesSkipAll cause_of z e (view a.left.now)) a.handed_is g.refused))
-  none_on e i j n o (decoding.left_failed x a z y) = absurd (done_not_failed j (subst IsDone a.left_is (k a.handed (Ok x) a.left a.called).done) z)
+      (subst (λ z. skipping.RefusesSkipAll cause_of z e (view a.left.now)) a.handed_is g.refused.1))
+  none_on e i j n o (decoding.left_failed x a z y) = absurd (done_not_failed j (subst IsDone a.left_is (k a.handed (Ok x) a.left a.called).value.1) z)
 
   pub refused_list : (e : DecodeError S) (s' : Stream) → (cause_of e ≡ of_memory → ⊥) → RefusesDecode cause_of view post s mode e s' → IsNoList mode s.rest
   refused_list e s' n d = none_on e d.handed d.left n d.over d.refuses

@@ -5,7 +5,7 @@ use Rattle.std.proofs.Common.{subst, ◌∙◌, append_assoc, append-nil, inl, i
 use Rattle.std.proofs.KnownBytes.{Appends-trans, Appends-kept, Keeps-refl, Keeps-trans}
 use Rattle.std.specs.Io.KnownBytes.{Appends, Keeps}
 use Rattle.bcder.specs.declared.mode.Mode.{Mode}
-use Rattle.bcder.specs.calls.Target.{AppendsShorter}
+use Rattle.bcder.specs.calls.Encoders.{AppendsShorter}
 use Rattle.berdump.specs.declared.list.ListError.{ListError}
 use Rattle.berdump.specs.declared.list.ListError.TheVariants.{Refused, NoMemory, Target}
 use Rattle.berdump.specs.declared.scope.Scope.{Scope}

@@ -8,7 +8,7 @@ use Rattle.std.specs.Io.KnownBytes.{Appends, Keeps}
 use Rattle.bcder.specs.declared.mode.Mode.{Mode}
 use Rattle.bcder.specs.x690.Identifier.{Tag}
 use Rattle.bcder.specs.x690.Encoding.{IsHeader}
-use Rattle.bcder.specs.calls.ContentsLen.{length_of}
+use Rattle.bcder.specs.calls.Content.{length_of}
 use Rattle.berdump.specs.declared.heading.Heading.{Heading}
 use Rattle.berdump.specs.declared.scope.Scope.{Scope}
 use Rattle.berdump.specs.declared.opened.Open.{Open}
@@ -21,7 +21,7 @@ use Rattle.berdump.specs.Listing.{heading, IsList, Holds, HoldsNone, IsListed, A
 use Rattle.berdump.specs.Opened.{behind_all, Completes, Goes, Fits, GoesOn}
 use Rattle.berdump.specs.declared.list.ListError.{ListError}
 use Rattle.berdump.specs.declared.list.ListError.TheVariants.{Refused, NoMemory, Target}
-use Rattle.bcder.specs.calls.Target.{AppendsShorter}
+use Rattle.bcder.specs.calls.Encoders.{AppendsShorter}
 use Rattle.berdump.specs.Answers.{Stands, AllStand, Written, Listed, ListedInPart, IsUnlisted, IsUnwritten}
 use Rattle.berdump.specs.Walk.{IsAt, Follows}
 use Rattle.berdump.proofs.Fitting.{contents_are_here, fits_primitive, fits_definite, fits_indefinite, no_list_without_header}

@@ -4,12 +4,12 @@ use Rattle.std.specs.Io.KnownBytes.{Appends, Keeps}
 use Rattle.bcder.specs.declared.mode.Mode.{Mode}
 use Rattle.bcder.specs.x690.Identifier.{Tag}
 use Rattle.bcder.specs.x690.Encoding.{IsHeader}
-use Rattle.bcder.specs.calls.ContentsLen.{length_of}
+use Rattle.bcder.specs.calls.Content.{length_of}
 use Rattle.berdump.specs.declared.heading.Heading.{Heading}
 use Rattle.berdump.specs.declared.scope.Scope.{Scope}
 use Rattle.berdump.specs.declared.list.ListError.{ListError}
 use Rattle.berdump.specs.declared.list.ListError.TheVariants.{Refused, NoMemory, Target}
-use Rattle.bcder.specs.calls.Target.{AppendsFront, AppendsShorter}
+use Rattle.bcder.specs.calls.Encoders.{AppendsFront, AppendsShorter}
 use Rattle.berdump.specs.Lines.{AreLines}
 use Rattle.berdump.specs.Listing.{IsNoList, AreListed}
 use Rattle.berdump.specs.Reasons.{IsRefusedAt}

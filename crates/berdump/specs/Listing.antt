@@ -5,7 +5,7 @@ use Rattle.bcder.specs.x690.Identifier.{Tag}
 use Rattle.bcder.specs.x690.BitString.{bit_string_tag}
 use Rattle.bcder.specs.x690.OctetString.{octet_string_tag}
 use Rattle.bcder.specs.x690.Length.{IsEndOfContents}
-use Rattle.bcder.specs.calls.ContentsLen.{length_of}
+use Rattle.bcder.specs.calls.Content.{length_of}
 use Rattle.bcder.specs.x690.Tree.{Trees}
 use Rattle.bcder.specs.x690.Encoding.{IsHeader, AreEncodings}
 use Rattle.berdump.specs.declared.heading.Heading.{Heading}

@@ -3,8 +3,8 @@ use Rattle.std.specs.Prelude.{◌≡◌, ℕ, ◌+◌, ◌<◌, ◌⊎◌, Bool,
 use Rattle.bcder.specs.declared.mode.Mode.{Mode}
 use Rattle.bcder.specs.x690.Identifier.{Tag}
 use Rattle.bcder.specs.x690.Encoding.{IsHeader}
-use Rattle.bcder.specs.calls.ContentsLen.{length_of}
-use Rattle.bcder.specs.calls.Fronts.{BeginsHeader, BeginsEnd}
+use Rattle.bcder.specs.calls.Content.{length_of}
+use Rattle.bcder.specs.calls.Violations.{BeginsHeader, BeginsEnd}
 use Rattle.bcder.specs.calls.Violations.{ViolatesFront}
 use Rattle.berdump.specs.declared.list.Reason.{Reason}
 use Rattle.berdump.specs.declared.list.Reason.TheVariants as r

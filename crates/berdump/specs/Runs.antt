@@ -2,7 +2,7 @@
 use Rattle.std.specs.Prelude.{◌≡◌, ◌≢◌, ◌≤◌, ◌<◌, ◌⊎◌, ℕ, Bool, true, false, List, [], ◌∷◌, ◌++◌, Option, MatchResult, codes, drop, length}
 use Rattle.std.specs.Io.KnownBytes.{Appends, Keeps}
 use Rattle.bcder.specs.declared.mode.Mode.{Mode}
-use Rattle.bcder.specs.calls.Target.{AppendsFront}
+use Rattle.bcder.specs.calls.Encoders.{AppendsFront}
 use Rattle.cli.specs.declared.files.Input.{Input}
 use Rattle.cli.specs.Pem.{HasBlocks, HasNoBlocks, HasNoBlock, HasOctets, IsNext}
 use Rattle.cli.specs.Spelled.{IsReadAs}

@@ -4,8 +4,9 @@
 ghost use Rattle.std.specs.Prelude.{◌≡◌, ◌∷◌, ◌++◌, ℕ, List, true, false};
 ghost use Rattle.std.specs.Prelude.{Some, None, IfOk, IfSome, IfNone};
 ghost use Rattle.bcder.specs.contracts.decode.source.slice.SliceSourceSource.TheImpl.{ghosts};
-ghost use Rattle.bcder.specs.calls.Skipping.{SkippedAll};
-ghost use Rattle.bcder.specs.calls.Views.{Moved};
+ghost use Rattle.bcder.specs.calls.Cause.{cause_of};
+ghost use Rattle.bcder.specs.calls.Walking.{AllBy, RefusesSkipAll};
+ghost use Rattle.bcder.specs.calls.Views.{of_constructed, Moved};
 ghost use Rattle.berdump.specs.Listing.{IsFront, IsList, IsNoList, Holds, HoldsNone};
 
 use bcder::decode::SliceSource;
@@ -21,7 +22,9 @@ pub(crate) fn is_list(alloc: Global, mode: Mode, octets: &[u8]) -> Result<bool, 
         SliceSource::new(octets),
         |cons|
             ensures moves { Moved ghosts.stream cons }
-            ensures skipped { SkippedAll ghosts.stream cons result }
+            ensures skipped { AllBy (RefusesSkipAll cause_of)
+                (of_constructed ghosts.stream cons.old) result
+                (of_constructed ghosts.stream cons.new) }
         { cons.skip_all(alloc) },
     );
     match passed {

@@ -4,6 +4,8 @@ use Rattle.std.proofs.Common.{sym, ap, subst, ◌∙◌, append_assoc, append-ni
 use Rattle.std.specs.Prelude.{◌⊎◌, Result, Ok, Err, IfOk, IfErr, IfSome, OnOk}
 use Rattle.std.specs.Borrow.{MutBor, GName}
 use Rattle.std.proofs.lemmas.Fn.{chained_keeps}
+use Rattle.bcder.specs.calls.Calls.{HasNone}
+use Rattle.bcder.specs.calls.Content.{any}
 use Rattle.bcder.specs.declared.mode.Mode.{Mode}
 use Rattle.bcder.specs.declared.decode.content.State.TheVariants.{Open, Failed}
 use Rattle.bcder.specs.declared.decode.content.Constructed.{Constructed}
@@ -17,9 +19,9 @@ use Rattle.bcder.specs.x690.Preorder.{Heading, preorder, preorders}
 use Rattle.bcder.specs.declared.decode.content.Kind.TheVariants as kind
 use Rattle.bcder.specs.calls.Content.{Reading, Octets, Moves, IsDone, EndsBefore, values}
 use Rattle.bcder.specs.calls.Walking.{ClosesBefore, HasValues, Walks}
-use Rattle.bcder.specs.calls.Skipping.{Steps, Called, SkipsValue, RefusesSkip}
-use Rattle.bcder.specs.calls.Skipping as skipping
-use Rattle.bcder.specs.calls.Refusals as refusals
+use Rattle.bcder.specs.calls.Walking.{Steps, Called, SkipsValue, RefusesSkip}
+use Rattle.bcder.specs.calls.Walking as skipping
+use Rattle.bcder.specs.calls.Content as refusals
 use Rattle.bcder.specs.calls.Decoding.{IsAllOf, RefusesOn, RefusesDecode}
 use Rattle.bcder.specs.calls.Decoding as decoding
 use Rattle.bcder.specs.calls.Stream.{Stream, Grew}
@@ -106,7 +108,7 @@ module _ {F : Type 0} (step : Steps F ContentError) (text : F → List ℕ) (wan
         (λ done q h v e s. k.same_wants q v h (Ok tt) s ∙ e) hs f g refl c
 
     pub lists_next : {T X : Type 0} (c d : Reading) (f g : F) (r : Result (Option T) X) (new : List ℕ) → (text_name g ≡ text_name f → new ≡ text g)
-        → IfOk r (λ o. IfSome o (λ _. SkipsValue step c f g d)) → IfOk r (λ o. IfSome o (λ _. ListsValue c (text f) new d))
+        → IfOk r (λ o. MatchOption o (HasNone any c d) (λ _. SkipsValue step c f g d)) → IfOk r (λ o. IfSome o (λ _. ListsValue c (text f) new d))
     lists_next c d f g (Ok None) new same s = tt
     lists_next c d f g (Ok (Some x)) new same s =
         let all = lines_added (preorder s.passes.tree 0) f g s.called in
@@ -121,9 +123,9 @@ module _ {F : Type 0} (step : Steps F ContentError) (text : F → List ℕ) (wan
     refuses_one c d f g e w (skipping.RefusesSkip.by_memory hs h x y z u v) = inl v
 
     pub refuses_next : {T S : Type 0} (c d : Reading) (f g : F) (r : Result T (DecodeError S)) → (wants_name g ≡ wants_name f → wants g ≡ false)
-        → IfErr r (λ e. RefusesSkip cause_of step c f e g d) → IfErr r (λ e. RefusesNext c e d)
+        → IfErr r (λ e. (d.state ≡ Failed) × RefusesSkip cause_of step c f e g d) → IfErr r (λ e. RefusesNext c e d)
     refuses_next c d f g (Ok x) w s = tt
-    refuses_next c d f g (Err e) w s = refuses_one c d f g e w s
+    refuses_next c d f g (Err e) w s = refuses_one c d f g e w s.1
 
 -- ---- what an answer says
 

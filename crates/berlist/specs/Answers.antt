@@ -7,7 +7,7 @@ use Rattle.bcder.specs.x690.Encoding.{AreEncodings}
 use Rattle.bcder.specs.x690.Preorder.{preorders}
 use Rattle.berlist.specs.declared.ListError.{ListError}
 use Rattle.berlist.specs.declared.ListError.TheVariants.{Refused, NoMemory, Target}
-use Rattle.bcder.specs.calls.Target.{AppendsShorter}
+use Rattle.bcder.specs.calls.Encoders.{AppendsShorter}
 use Rattle.berlist.specs.Lines.{lines}
 
 -- the lines of the values and of all values inside them

@@ -7,7 +7,7 @@ use Rattle.bcder.specs.declared.decode.error.DecodeError.{DecodeError}
 use Rattle.bcder.specs.x690.Preorder.{preorder, preorders}
 use Rattle.bcder.specs.calls.Cause.{cause_of, of_memory}
 use Rattle.bcder.specs.calls.Content.{any, Reading, IsDone, EndsBefore}
-use Rattle.bcder.specs.calls.Refusals as refusals
+use Rattle.bcder.specs.calls.Content as refusals
 use Rattle.bcder.specs.calls.Walking.{HasNoNext, PassesValue, HasValues, RefusesValues}
 use Rattle.berlist.specs.Lines.{lines}
 

@@ -4,7 +4,7 @@ use Rattle.std.specs.Io.KnownBytes.{Keeps}
 use Rattle.bcder.specs.declared.mode.Mode.{Mode}
 use Rattle.bcder.specs.declared.mode.Mode.TheVariants.{Ber, Cer, Der}
 use Rattle.hex.specs.Hex.{decode_of}
-use Rattle.bcder.specs.calls.Target.{AppendsFront}
+use Rattle.bcder.specs.calls.Encoders.{AppendsFront}
 use Rattle.berlist.specs.Answers.{IsNoList, Listed, ListedInPart}
 
 abbrev pub mode_word : Mode → List ℕ

@@ -8,7 +8,7 @@
 ghost use Rattle.std.specs.Prelude.{◌≡◌, ℕ, List, OnOk, IfErr, codes, map, string_bytes};
 ghost use Rattle.bcder.specs.declared.mode.Mode.{Mode as TheMode};
 ghost use Rattle.berlist.specs.Answers.{Listed, IsUnlisted};
-ghost use Rattle.bcder.specs.calls.Target.{AppendsFront};
+ghost use Rattle.bcder.specs.calls.Encoders.{AppendsFront};
 ghost use Rattle.berlist.specs.Requests.{Asks, AsksNothing, Tells, Ends};
 
 mod gather;

@@ -1,7 +1,7 @@
 -- Lines without control characters, and what is written of them.
 use Rattle.std.specs.Prelude.{◌≡◌, ℕ, List, [], ◌++◌, Option}
 use Rattle.std.specs.Io.KnownBytes.{Appends}
-use Rattle.bcder.specs.calls.Target.{AppendsFront}
+use Rattle.bcder.specs.calls.Encoders.{AppendsFront}
 use Rattle.cli.specs.Shown.{IsLine}
 
 -- a text is lines, each without control characters

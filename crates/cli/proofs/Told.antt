@@ -1,6 +1,6 @@
 -- What is told.
 use Rattle.std.proofs.Common.{ℕ, List, ◌++◌, Option, codes, sym, append_assoc}
-use Rattle.bcder.specs.calls.Target.{AppendsFront}
+use Rattle.bcder.specs.calls.Encoders.{AppendsFront}
 use Rattle.cli.specs.Shown.{IsShown}
 use Rattle.cli.specs.Told.{Tells}
 

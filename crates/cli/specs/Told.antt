@@ -1,6 +1,6 @@
 -- What is told on standard error.
 use Rattle.std.specs.Prelude.{ℕ, List, ◌++◌, Option, codes}
-use Rattle.bcder.specs.calls.Target.{AppendsFront}
+use Rattle.bcder.specs.calls.Encoders.{AppendsFront}
 use Rattle.cli.specs.Shown.{IsLine, IsShown}
 
 -- a line without control characters was written, or a prefix of it

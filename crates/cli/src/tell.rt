@@ -1,6 +1,6 @@
 //! Messages on standard error, and what they are about.
 ghost use Rattle.std.specs.Prelude.{◌≡◌, ◌++◌};
-ghost use Rattle.bcder.specs.calls.Target.{AppendsFront};
+ghost use Rattle.bcder.specs.calls.Encoders.{AppendsFront};
 ghost use Rattle.cli.specs.Told.{IsProgram, Tells};
 ghost use Rattle.cli.specs.declared.status.Status.TheVariants.{Failed};
 

@@ -7,7 +7,7 @@ use Rattle.bcder.specs.declared.decode.error.DecodeError.{DecodeError}
 use Rattle.bcder.specs.calls.Cause.{cause_of, of_source}
 use Rattle.bcder.specs.calls.Content.{Reading}
 use Rattle.bcder.specs.calls.Stream.{at_hand}
-use Rattle.bcder.specs.calls.Alone.{RanAlone, RefusedAlone, by_closure, left_octets}
+use Rattle.bcder.specs.calls.Decoding.{RanAlone, RefusedAlone, by_closure, left_octets}
 use Rattle.bcder.specs.calls.Readers.{Reads, MeanNothing, RefusesReading, refused, source, few}
 
 module _ {C T X : Type 0} (view : C → Reading) (post : MutBor C → Result T (DecodeError X) → MutBor C → Type 0) (Means : Mode → List ℕ → T → Type 0)

@@ -7,7 +7,7 @@ use Rattle.bcder.specs.declared.mode.Mode.{Mode}
 use Rattle.bcder.specs.declared.mode.Mode.TheVariants.{Ber, Cer, Der}
 use Rattle.bcder.specs.x690.Identifier.{AreOctets, Tag}
 use Rattle.bcder.specs.x690.Octets.{constructed_length, header}
-use Rattle.bcder.specs.calls.ContentsLen.{length_of}
+use Rattle.bcder.specs.calls.Content.{length_of}
 use Rattle.bcder.specs.x690.Tree.{Tree, primitive, constructed, Trees, no_trees, ◌∷ₜ◌}
 use Rattle.bcder.specs.x690.Encoding.{AreEncodings}
 use Rattle.bcder.specs.calls.Captured.{AreWhole}

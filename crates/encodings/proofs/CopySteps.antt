@@ -11,7 +11,7 @@ use Rattle.bcder.specs.x690.Tree.{primitive}
 use Rattle.bcder.specs.laws.Complete.{header_size}
 use Rattle.bcder.specs.laws.Sound.{none_is, some_inj, AreOctets-take}
 use Rattle.bcder.specs.laws.Stands.{AreOctets-after}
-use Rattle.bcder.specs.calls.ContentsLen.{length_of}
+use Rattle.bcder.specs.calls.Content.{length_of}
 use Rattle.encodings.specs.declared.sets.Copied.{Copied}
 use Rattle.encodings.specs.declared.sets.Enclosing.{Enclosing}
 use Rattle.encodings.specs.Open.{Open, to_come}

@@ -11,7 +11,7 @@ use Rattle.bcder.specs.x690.Encoding.{IsHeader, IsEncoding, AreEncodings}
 use Rattle.bcder.specs.x690.Identifier.{Tag}
 use Rattle.bcder.specs.x690.Tree.{Tree, constructed, Trees, no_trees, ◌∷ₜ◌, ◌+++◌}
 use Rattle.bcder.specs.laws.Lists.{AreEncodings-join, AreEncodings-one}
-use Rattle.bcder.specs.calls.ContentsLen.{length_of}
+use Rattle.bcder.specs.calls.Content.{length_of}
 use Rattle.bcder.specs.calls.Valued.{tag_of}
 use Rattle.encodings.specs.declared.sets.Copied.{Copied}
 use Rattle.encodings.specs.declared.sets.Enclosing.{Enclosing}

@@ -8,7 +8,7 @@ use Rattle.bcder.specs.declared.mode.Mode.TheVariants.{Cer}
 use Rattle.bcder.specs.x690.Identifier.{Tag}
 use Rattle.bcder.specs.x690.OctetString.{octet_string_tag, segments_of, FollowFull, AreSegmentsIn}
 use Rattle.bcder.specs.x690.Octets.{definite, header}
-use Rattle.bcder.specs.calls.ContentsLen.{length_of}
+use Rattle.bcder.specs.calls.Content.{length_of}
 use Rattle.bcder.specs.x690.Tree.{primitive, no_trees, ◌∷ₜ◌}
 use Rattle.encodings.specs.declared.convert.Item.{Item}
 use Rattle.encodings.specs.declared.convert.Kind.{Kind}

@@ -10,7 +10,7 @@ use Rattle.std.proofs.Math.ListN.{drop_of_length-le}
 use Rattle.bcder.specs.x690.Identifier.{AreOctets}
 use Rattle.bcder.specs.x690.ObjectIdentifier.{number_after, subidentifier_number, subidentifiers, IsWhole, IsComplete}
 use Rattle.bcder.specs.x690.ObjectIdentifier.{components_of}
-use Rattle.bcder.specs.calls.IdentifierText.{dotted, dots_before}
+use Rattle.bcder.specs.calls.Identifiers.{dotted, dots_before}
 use Rattle.bcder.specs.laws.Stands.{AreOctets-after}
 use Rattle.bcder.proofs.SubidentifierLists.{cut_whole}
 use Rattle.bcder.proofs.Subidentifiers.{number_grows}

@@ -7,7 +7,7 @@ use Rattle.bcder.specs.declared.mode.Mode.{Mode}
 use Rattle.bcder.specs.x690.Identifier.{AreOctets, Tag}
 use Rattle.bcder.specs.x690.Tree.{Tree, constructed, Trees, ◌∷ₜ◌}
 use Rattle.bcder.specs.x690.Encoding.{IsHeader, AreEncodings}
-use Rattle.bcder.specs.calls.ContentsLen.{length_of}
+use Rattle.bcder.specs.calls.Content.{length_of}
 use Rattle.bcder.specs.steps.Reading.{read_end, at_end, read_list, read_tree}
 use Rattle.bcder.specs.laws.Sound.{some_inj, mapped}
 use Rattle.bcder.specs.laws.Stands.{list_sound, list_complete}

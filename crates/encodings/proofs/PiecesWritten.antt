@@ -13,7 +13,7 @@ use Rattle.bcder.specs.x690.OctetString.{segments, segments_of}
 use Rattle.bcder.specs.x690.Octets.{constructed_length, header, definite, closing, enclosed}
 use Rattle.bcder.specs.x690.Tree.{Tree, primitive, constructed, Trees, no_trees, ◌∷ₜ◌}
 use Rattle.bcder.specs.x690.Encoding.{IsHeader, IsFramed, IsEncoding, AreEncodings}
-use Rattle.bcder.specs.calls.ContentsLen.{length_of}
+use Rattle.bcder.specs.calls.Content.{length_of}
 use Rattle.bcder.specs.laws.Canonical.{big_endian-lt, one_spelling}
 use Rattle.bcder.specs.laws.Lengths.{IsLengthForm-from_length}
 use Rattle.bcder.specs.laws.Octets.{AreOctets-nil, AreOctets-cons, AreOctets-append}

@@ -9,7 +9,7 @@ use Rattle.bcder.specs.x690.Length.{IsEndOfContents}
 use Rattle.bcder.specs.x690.Tree.{Tree, primitive, constructed, Trees, ◌∷ₜ◌}
 use Rattle.bcder.specs.x690.Encoding.{IsHeader, IsEncoding, IsFramed}
 use Rattle.bcder.specs.x690.Preorder.{Heading, preorder, preorders}
-use Rattle.bcder.specs.calls.ContentsLen.{length_of}
+use Rattle.bcder.specs.calls.Content.{length_of}
 use Rattle.bcder.specs.steps.Reading.{read_header, read_contents, read_end, at_end, read_list, read_tree}
 use Rattle.bcder.specs.laws.Complete.{header_complete}
 use Rattle.bcder.specs.laws.Lengths.{read_end-complete}

@@ -7,7 +7,7 @@ use Rattle.bcder.specs.x690.Identifier.{AreOctets, Tag}
 use Rattle.bcder.specs.x690.Tree.{Tree, Trees, ◌∷ₜ◌}
 use Rattle.bcder.specs.x690.Encoding.{IsHeader}
 use Rattle.bcder.specs.x690.Preorder.{Heading, preorder}
-use Rattle.bcder.specs.calls.ContentsLen.{length_of}
+use Rattle.bcder.specs.calls.Content.{length_of}
 use Rattle.bcder.specs.steps.Reading.{read_header, at_end, read_list, read_tree}
 use Rattle.bcder.specs.laws.Complete.{header_complete, header_size}
 use Rattle.bcder.specs.laws.Sound.{none_is}

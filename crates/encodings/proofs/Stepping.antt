@@ -10,7 +10,7 @@ use Rattle.bcder.specs.declared.mode.Mode.{Mode}
 use Rattle.bcder.specs.x690.Identifier.{Tag}
 use Rattle.bcder.specs.x690.Length.{IsEndOfContents}
 use Rattle.bcder.specs.x690.Encoding.{IsHeader}
-use Rattle.bcder.specs.calls.ContentsLen.{length_of}
+use Rattle.bcder.specs.calls.Content.{length_of}
 use Rattle.encodings.specs.declared.heading.Heading.{Heading as HeadingTold}
 use Rattle.encodings.specs.declared.next.Event.{Event}
 use Rattle.encodings.specs.declared.next.Walk.{Walk}

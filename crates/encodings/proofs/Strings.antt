@@ -14,7 +14,7 @@ use Rattle.bcder.specs.x690.Tree.{Trees}
 use Rattle.bcder.specs.x690.Encoding.{IsHeader, AreEncodings}
 use Rattle.bcder.specs.x690.OctetString.{segments_of, AreSegmentsIn, AreSegmented, AreCut, IsLast}
 use Rattle.bcder.specs.calls.Captured.{AreWhole}
-use Rattle.bcder.specs.calls.ContentsLen.{length_of}
+use Rattle.bcder.specs.calls.Content.{length_of}
 use Rattle.bcder.specs.steps.Reading.{read_header, read_end}
 use Rattle.bcder.specs.steps.Segments.{is_octet_string, segment_behind, read_segment}
 use Rattle.bcder.specs.laws.Complete.{header_complete, one_list}

@@ -10,7 +10,7 @@ use Rattle.bcder.specs.x690.Identifier.{AreOctets, Tag}
 use Rattle.bcder.specs.x690.Length.{IsEndOfContents}
 use Rattle.bcder.specs.x690.Encoding.{IsHeader, may_have}
 use Rattle.bcder.specs.x690.Preorder.{Heading}
-use Rattle.bcder.specs.calls.ContentsLen.{length_of}
+use Rattle.bcder.specs.calls.Content.{length_of}
 use Rattle.bcder.specs.steps.Reading.{read_tree}
 use Rattle.bcder.specs.laws.Complete.{header_size}
 use Rattle.encodings.specs.declared.checked.Checked.{Checked}

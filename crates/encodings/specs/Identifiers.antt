@@ -1,7 +1,7 @@
 -- The text of object identifiers (ITU-T X.690, 8.19; X.680, 32).
 use Rattle.std.specs.Prelude.{◌≡◌, ℕ, ◌^◌, ◌<◌, List, [], ◌∷◌, ◌++◌, map, length, decimal}
 use Rattle.bcder.specs.x690.ObjectIdentifier.{IsWhole, IsComplete, subidentifier_number, subidentifiers, components}
-use Rattle.bcder.specs.calls.IdentifierText.{dotted}
+use Rattle.bcder.specs.calls.Identifiers.{dotted}
 
 -- the numbers are below a limit
 abbrev pub AreBelow : ℕ → List ℕ → Type 0

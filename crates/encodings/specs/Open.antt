@@ -8,7 +8,7 @@ use Rattle.bcder.specs.steps.Reading.{read_list, read_tree}
 use Rattle.bcder.specs.x690.Identifier.{Tag}
 use Rattle.bcder.specs.x690.Encoding.{IsHeader}
 use Rattle.bcder.specs.x690.Length.{IsEndOfContents}
-use Rattle.bcder.specs.calls.ContentsLen.{length_of}
+use Rattle.bcder.specs.calls.Content.{length_of}
 use Rattle.encodings.specs.declared.checked.Checked.{Checked}
 use Rattle.encodings.specs.Depth.{deepest}
 use Rattle.encodings.specs.Status.{absent, beyond, ended}

@@ -9,7 +9,7 @@ use Rattle.bcder.specs.x690.Encoding.{IsHeader, AreEncodings}
 use Rattle.bcder.specs.x690.OctetString.{octet_string_tag}
 use Rattle.bcder.specs.x690.Octets.{constructed_length, header, definite, closing, enclosed}
 use Rattle.bcder.specs.x690.Tree.{Tree, primitive, constructed, Trees, no_trees, ◌∷ₜ◌}
-use Rattle.bcder.specs.calls.ContentsLen.{length_of}
+use Rattle.bcder.specs.calls.Content.{length_of}
 use Rattle.bcder.specs.steps.Reading.{read_list}
 use Rattle.encodings.specs.declared.convert.Kind.{Kind}
 use Rattle.encodings.specs.declared.convert.Kind.TheVariants.{Boolean, Bits, Text, Other}

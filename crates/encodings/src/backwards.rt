@@ -3,7 +3,7 @@
 
 ghost use Rattle.std.specs.Prelude.{◌≡◌, ◌≢◌, ◌+◌, ◌≤◌, ◌<◌, ◌^◌, ◌++◌, List, ℕ, length, Bool};
 ghost use Rattle.std.specs.Prelude.{IfOk, IfErr, OnOk, IsSome, IsNone, Some, None, false, true};
-ghost use Rattle.bcder.specs.calls.ContentsLen.{length_of};
+ghost use Rattle.bcder.specs.calls.Content.{length_of};
 ghost use Rattle.bcder.specs.x690.Identifier.{class_bits as class_octet, form_bit, identifier};
 ghost use Rattle.bcder.specs.x690.Octets.{closing, constructed_length};
 ghost use Rattle.bcder.specs.x690.Octets.{definite, definite_length, header};

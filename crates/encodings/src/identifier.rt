@@ -1,7 +1,7 @@
 //! The text of object identifiers (X.690, 8.19).
 ghost use Rattle.std.specs.Prelude.{◌≡◌, ◌+◌, ◌^◌, ◌<◌, ◌≤◌, ◌++◌, [], ◌∷◌, List, ℕ, map};
 ghost use Rattle.std.specs.Prelude.{MatchOption, codes, decimal};
-ghost use Rattle.bcder.specs.calls.IdentifierText.{dotted};
+ghost use Rattle.bcder.specs.calls.Identifiers.{dotted};
 ghost use Rattle.bcder.specs.x690.ObjectIdentifier.{components_of};
 ghost use Rattle.encodings.specs.Buffers.{IsAtFront, Stores};
 ghost use Rattle.encodings.specs.Identifiers.{BeginsWithNoNumber, BeginsWithNumber, HasText};

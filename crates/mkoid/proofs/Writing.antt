@@ -5,7 +5,7 @@ use Rattle.std.specs.Prelude.{Option, Result, Ok, Err, OnOk, OnErr}
 use Rattle.std.specs.Io.KnownBytes.{Appends}
 use Rattle.std.proofs.KnownBytes.{Appends-trans}
 use Rattle.std.proofs.lemmas.List.{map-append, take_more}
-use Rattle.bcder.specs.calls.Target.{AppendsShorter}
+use Rattle.bcder.specs.calls.Encoders.{AppendsShorter}
 use Rattle.mkoid.specs.Lines.{IsLine, AreLines, WritesAll, WritesSome}
 
 pub on_ok : {T E : Type 0} (r : Result T E) (P Q : Type 0) → (P → Q) → OnOk r P → OnOk r Q

@@ -1,9 +1,9 @@
 -- The lines of arguments.
 use Rattle.std.specs.Prelude.{◌≡◌, ◌≢◌, ℕ, List, [], ◌∷◌, ◌++◌, Option, flat_map, codes, decimal}
 use Rattle.std.specs.Io.KnownBytes.{Appends}
-use Rattle.bcder.specs.calls.Target.{AppendsShorter}
+use Rattle.bcder.specs.calls.Encoders.{AppendsShorter}
 use Rattle.bcder.specs.declared.oid.text.OidError.{OidError}
-use Rattle.bcder.specs.calls.IdentifierText.{IsTextOf, RefusesText, error_text}
+use Rattle.bcder.specs.calls.Identifiers.{IsTextOf, RefusesText, error_text}
 
 -- an octet in decimal and a comma
 abbrev pub with_comma : ℕ → List ℕ

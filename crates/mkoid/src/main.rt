@@ -7,8 +7,8 @@
 
 ghost use Rattle.std.specs.Prelude.{◌≡◌, OnOk, OnErr, IfOk, IfErr, map, string_bytes};
 ghost use Rattle.std.specs.Io.KnownBytes.{Appends};
-ghost use Rattle.bcder.specs.calls.IdentifierText.{RefusesText, error_text};
-ghost use Rattle.bcder.specs.calls.Target.{AppendsShorter};
+ghost use Rattle.bcder.specs.calls.Identifiers.{RefusesText, error_text};
+ghost use Rattle.bcder.specs.calls.Encoders.{AppendsShorter};
 ghost use Rattle.mkoid.specs.Lines.{octets_line, refusal_line, IsNamed, WritesAll, WritesSome};
 ghost use Rattle.mkoid.specs.Lines.{WritesLine, WritesPart};
 

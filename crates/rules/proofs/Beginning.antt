@@ -5,7 +5,7 @@ use Rattle.bcder.specs.declared.mode.Mode.{Mode}
 use Rattle.bcder.specs.declared.mode.Mode.TheVariants.{Ber}
 use Rattle.bcder.specs.x690.Encoding.{IsHeader}
 use Rattle.bcder.specs.x690.Identifier.{AreOctets, Tag}
-use Rattle.bcder.specs.calls.ContentsLen.{length_of}
+use Rattle.bcder.specs.calls.Content.{length_of}
 use Rattle.bcder.specs.laws.Canonical.{header_in_ber}
 use Rattle.bcder.specs.laws.Sound.{AreOctets-take}
 use Rattle.bcder.specs.laws.Stands.{AreOctets-after}

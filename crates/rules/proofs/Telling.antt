@@ -8,7 +8,7 @@ use Rattle.bcder.specs.declared.mode.Mode.{Mode}
 use Rattle.bcder.specs.declared.mode.Mode.TheVariants.{Ber}
 use Rattle.bcder.specs.x690.Identifier.{AreOctets, Tag}
 use Rattle.bcder.specs.steps.Reading.{read_tree}
-use Rattle.bcder.specs.calls.Fronts.{BeginsHeader, BeginsEnd}
+use Rattle.bcder.specs.calls.Violations.{BeginsHeader, BeginsEnd}
 use Rattle.encodings.specs.Next.{IsDue}
 use Rattle.bcder.specs.laws.Complete.{header_size}
 use Rattle.encodings.specs.Open.{Open, Closes, GoesBeyond, HasNoHeader}

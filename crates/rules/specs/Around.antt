@@ -7,7 +7,7 @@ use Rattle.bcder.specs.declared.mode.Mode.TheVariants.{Ber}
 use Rattle.bcder.specs.x690.Encoding.{IsHeader, IsEncoding, AreEncodings}
 use Rattle.bcder.specs.x690.Identifier.{Tag}
 use Rattle.bcder.specs.x690.Tree.{Tree, Trees}
-use Rattle.bcder.specs.calls.ContentsLen.{length_of}
+use Rattle.bcder.specs.calls.Content.{length_of}
 use Rattle.encodings.specs.Open.{Open}
 use Rattle.encodings.specs.Sets.{place, is_set, IsNotAfter}
 use Rattle.encodings.specs.Sorting.{behind_of, open_length}

@@ -3,7 +3,7 @@ use Rattle.std.specs.Prelude.{◌≡◌, ℕ, Bool, List, ◌++◌, length, Some
 use Rattle.bcder.specs.declared.mode.Mode.{Mode}
 use Rattle.bcder.specs.x690.Encoding.{IsHeader}
 use Rattle.bcder.specs.x690.Identifier.{Tag}
-use Rattle.bcder.specs.calls.ContentsLen.{length_of}
+use Rattle.bcder.specs.calls.Content.{length_of}
 use Rattle.encodings.specs.Open.{Open, GoesBeyond, HasNoHeader}
 use Rattle.rules.specs.declared.begun.Front.{Front}
 use Rattle.rules.specs.declared.begun.Front.TheVariants.{Value, Beyond, Nothing}

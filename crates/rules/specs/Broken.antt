@@ -8,7 +8,7 @@ use Rattle.bcder.specs.x690.Encoding.{IsEncoding, AreEncodings}
 use Rattle.bcder.specs.x690.Identifier.{Tag}
 use Rattle.bcder.specs.x690.ObjectIdentifier.{IsComplete}
 use Rattle.bcder.specs.x690.Tree.{Tree, constructed, Trees}
-use Rattle.bcder.specs.calls.Fronts.{BeginsEnd, BeginsHeader}
+use Rattle.bcder.specs.calls.Violations.{BeginsEnd, BeginsHeader}
 use Rattle.bcder.specs.calls.Violations.{ViolatesFront}
 use Rattle.encodings.specs.Next.{IsDue}
 use Rattle.encodings.specs.Open.{Open, GoesBeyond, HasNoHeader}

@@ -9,7 +9,7 @@ use Rattle.bcder.specs.declared.mode.Mode.TheVariants.{Ber}
 use Rattle.bcder.specs.x690.Identifier.{Tag, identifier, null_tag, IsValueTag}
 use Rattle.bcder.specs.x690.Octets.{definite_length}
 use Rattle.bcder.specs.calls.Meaning.{Encoded, IsOne, Exactly, ValueMeans, primitive_encoded, primitive_meaning}
-use Rattle.bcder.specs.calls.Joined.{nothing, join, Then, NoValues, Joined}
+use Rattle.bcder.specs.calls.Meaning.{nothing, join, Then, NoValues, Joined}
 use Rattle.bcder.specs.calls.Encoders.{WroteOf, Writes, WritesEncoding, SizeOfValues, RefusesBy}
 use Rattle.bcder.specs.laws.Octets.{AreOctets-nil}
 use Rattle.bcder.specs.laws.Meanings.{Exactly_lawful, primitive_lawful}

@@ -4,7 +4,7 @@ use Rattle.std.proofs.Common.{arith}
 use Rattle.bcder.specs.declared.mode.Mode.{Mode}
 use Rattle.bcder.specs.x690.Identifier.{AreOctets, null_tag}
 use Rattle.bcder.specs.calls.Meaning.{Meaning, IsLawful, Exactly, ValueMeans, primitive_meaning}
-use Rattle.bcder.specs.calls.Joined.{EachOf}
+use Rattle.bcder.specs.calls.Meaning.{EachOf}
 use Rattle.bcder.specs.laws.Octets.{AreOctets-nil, AreOctets-cons}
 use Rattle.bcder.specs.laws.Meanings.{Exactly_lawful, primitive_lawful}
 use Rattle.bcder.specs.laws.Joined.{EachOf_lawful}

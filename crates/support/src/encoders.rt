@@ -3,7 +3,7 @@ ghost use Rattle.std.specs.Prelude.{◌≡◌};
 ghost use Rattle.bcder.specs.x690.Identifier.{universal};
 ghost use Rattle.bcder.specs.calls.Encoders.{SizeOfValues, WritesParts};
 ghost use Rattle.bcder.specs.calls.Meaning.{Exactly};
-ghost use Rattle.bcder.specs.calls.Joined.{Joined};
+ghost use Rattle.bcder.specs.calls.Meaning.{Joined};
 ghost use Rattle.bcder.specs.laws.Meanings.{Exactly_lawful};
 ghost use Rattle.bcder.specs.laws.Joined.{Joined_lawful};
 ghost use Rattle.support.specs.Counted.{zeros, zeros_are, NullsMean, nulls_lawful};

@@ -41,8 +41,10 @@ module _ {N : Type 0} (value : N → ℤ) (mode : Mode) (p q : Primitive N) (sam
   pub refused_target : (r : Result (Unit {0}) WriteError) → Writes (λ (e : Encoded). e.octets) (number_means value mode p) ⊥ old new r → IfErr r IsOfTarget
   refused_target (Ok u) w = tt
   refused_target (Err (Target e)) w = tt
-  refused_target (Err (Refused e)) (inl w) = absurd (w.2.done.1)
-  refused_target (Err (Refused e)) (inr n) = absurd (never_refused (number_means value mode p) a only_of n.0 n.2)
+  refused_target (Err (Refused e)) h = elim h.went [
+    | inl w ↦ absurd (w.2.done.1)
+    | inr n ↦ absurd (never_refused (number_means value mode p) a only_of n.0 n.2)
+  ]
 
   pub written : Writes (λ (e : Encoded). e.octets) (number_means value mode p) ⊥ old new (Ok tt) → Appends old new a.octets
   written w = written_as_meant (number_means value mode p) ⊥ old new a only_of w

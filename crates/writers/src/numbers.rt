@@ -5,8 +5,8 @@ ghost use Rattle.std.specs.Prelude.{◌≡◌, IfOk, IfErr};
 ghost use Rattle.std.specs.Int.{w32};
 ghost use Rattle.bcder.specs.x690.Identifier.{integer_tag};
 ghost use Rattle.bcder.specs.calls.Readers.{IsSigned};
-ghost use Rattle.bcder.specs.calls.Typed.{TookOneAs};
-ghost use Rattle.bcder.specs.calls.Views.{Moved};
+ghost use Rattle.bcder.specs.calls.Valued.{TakesOneAs};
+ghost use Rattle.bcder.specs.calls.Views.{Moved, of_constructed};
 ghost use Rattle.writers.specs.Numbers.{IsOfTarget};
 
 use bcder::decode::{Constructed, DecodeError, Source};
@@ -41,7 +41,8 @@ pub fn write_and_read(alloc: Global, number: u32, mode: Mode) -> Result<u32, Wri
 /// Those of `Constructed::take_u32`, by the range of `i32`.
 pub fn take_i32<S: Source>(cons: &mut Constructed<'_, S>) -> Result<i32, DecodeError<S::Error>>
     ensures moves { Moved S.stream cons }
-    ensures took { TookOneAs S.stream cons integer_tag (IsSigned w32) result }
+    ensures took { TakesOneAs integer_tag (IsSigned w32) (of_constructed S.stream cons.old) result
+        (of_constructed S.stream cons.new) }
 {
     cons.take_primitive_if(Tag::INTEGER, |octets| octets.to_i32())
 }

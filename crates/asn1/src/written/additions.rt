@@ -1,7 +1,7 @@
 //! Extension additions, of which none are written (X.680, 52).
 ghost use Rattle.std.specs.Prelude.{◌≡◌};
 ghost use Rattle.bcder.specs.x690.Tree.{no_trees};
-ghost use Rattle.bcder.specs.calls.Joined.{NoValues};
+ghost use Rattle.bcder.specs.calls.Meaning.{NoValues};
 ghost use Rattle.bcder.specs.laws.Joined.{NoValues_lawful};
 
 use crate::ExtensionAdditions;

@@ -1,6 +1,6 @@
 //! SEQUENCE OF, written (X.690, 8.10).
 ghost use Rattle.std.specs.Prelude.{All, Any};
-ghost use Rattle.bcder.specs.calls.Joined.{EachOf, Joined, IsSum};
+ghost use Rattle.bcder.specs.calls.Meaning.{EachOf, Joined, IsSum};
 ghost use Rattle.bcder.specs.calls.Encoders.{HasEncoding, TellsSum, WritesParts};
 ghost use Rattle.std.specs.Prelude.{ℕ, ◌+◌};
 ghost use Rattle.bcder.specs.laws.Meanings.{constructed_lawful};

@@ -2,7 +2,7 @@
 ghost use Rattle.asn1.specs.Tuples.{first_of_3, first_of_4, grouped_5, grouped_6, grouped_7};
 ghost use Rattle.asn1.specs.Tuples.{grouped_8, grouped_9, grouped_10, grouped_11, grouped_12};
 ghost use Rattle.std.specs.Prelude.{◌⊎◌};
-ghost use Rattle.bcder.specs.calls.Joined.{Then, NoValues, Joined};
+ghost use Rattle.bcder.specs.calls.Meaning.{Then, NoValues, Joined};
 ghost use Rattle.bcder.specs.laws.Joined.{Then_lawful, NoValues_lawful, Joined_lawful};
 
 use crate::writers::{ByRef, EncodeFields};

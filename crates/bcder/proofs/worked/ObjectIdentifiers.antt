@@ -2,9 +2,9 @@
 use Rattle.std.proofs.Common.{◌≡◌, [], ◌∷◌, refl}
 use Rattle.std.specs.Prelude.{codes}
 use Rattle.bcder.specs.declared.oid.components.Position.TheVariants.{First, Second, Other}
-use Rattle.bcder.specs.calls.Components.{component_parts}
+use Rattle.bcder.specs.calls.Identifiers.{component_parts}
 use Rattle.bcder.specs.x690.ObjectIdentifier.{components}
-use Rattle.bcder.specs.calls.IdentifierText.{between_dots}
+use Rattle.bcder.specs.calls.Identifiers.{between_dots}
 
 -- 8.19.5, the example: {2 100 3}
 the_example : components (0x81 ∷ 0x34 ∷ 0x03 ∷ []) ≡ 2 ∷ 100 ∷ 3 ∷ []

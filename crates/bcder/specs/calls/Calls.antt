@@ -1,21 +1,19 @@
--- What calls require of a closure that gets content, and what they say about it.
-use Rattle.std.specs.Prelude.{◌≡◌, ◌≢◌, ◌||◌, ℕ, ◌+◌, ◌-◌, ◌≤◌, Bool, true, false, List, ◌++◌, length, take}
-use Rattle.std.specs.Prelude.{Option, Some, None, Result, Ok, Err, IfOk, IfErr, OnOk}
+-- What calls require of a closure that gets content, what they say about it, and what takes of a value return and leave.
+use Rattle.std.specs.Prelude.{◌≡◌, ◌≢◌, ◌||◌, ℕ, ◌+◌, ◌≤◌, Bool, true, false, List, ◌++◌, length, take, Option, Some, Result, Ok, Err, IfOk}
+use Rattle.std.specs.Prelude.{IfErr, OnOk, ◌⊎◌, IfSome, IfNone, OnErr, MatchOption}
 use Rattle.std.specs.Borrow.{MutBor}
-use Rattle.bcder.specs.declared.mode.Mode.{Mode}
-use Rattle.bcder.specs.declared.length.Length.{Length}
+use Rattle.bcder.specs.declared.{mode.Mode.Mode, length.Length.Length, decode.content.State.State, decode.error.ContentError.ContentError}
+use Rattle.bcder.specs.declared.{decode.error.ContentError.TheVariants.ExpectedTag, decode.error.DecodeError.DecodeError}
 use Rattle.bcder.specs.declared.length.Length.TheVariants.{Definite, Indefinite}
-use Rattle.bcder.specs.declared.decode.content.State.{State}
 use Rattle.bcder.specs.declared.decode.content.State.TheVariants.{Open, Failed}
+use Rattle.bcder.specs.declared.decode.content.Kind.TheVariants as kind
 use Rattle.bcder.specs.x690.Identifier.{Tag, IsValueTag}
 use Rattle.bcder.specs.x690.Tree.{Tree}
-use Rattle.bcder.specs.declared.decode.error.ContentError.{ContentError}
-use Rattle.bcder.specs.calls.Cause.{Cause, of_source, IsOfContent}
-use Rattle.bcder.specs.x690.Encoding.{IsHeader, IsEncoding, Header}
+use Rattle.bcder.specs.x690.Encoding.{IsEncoding}
+use Rattle.bcder.specs.calls.Cause.{Cause, of_source, IsOfContent, cause_of, of_content, IsRefusal}
 use Rattle.bcder.specs.calls.Stream.{Stream, Grew}
-use Rattle.bcder.specs.declared.decode.content.Kind.TheVariants as kind
-use Rattle.bcder.specs.calls.Content.{Reading, ContentForm, Octets, label, Moves, values}
-use Rattle.bcder.specs.calls.Content.{Advances, Asked, HasHeader, IsDone, EndsBefore}
+use Rattle.bcder.specs.calls.Content.{Reading, ContentForm, Octets, label, Moves, values, Asked, HasHeader, IsDone, EndsBefore, any, tagged}
+use Rattle.bcder.specs.calls.Content.{IsMissing, NothingThere, Refuses}
 
 -- ---- what a closure gets
 
@@ -144,52 +142,61 @@ pub record RefusesFront {C T E : Type 0} (why : E → Cause ContentError) (view 
   pub marked : d.marked ≡ (c.marked || left.marked)
   pub refuses : RefusesContent why view post front.tag handed e left
 
--- ---- the steps inside a take
+-- ---- takes of a value
 
--- a closure got content over the source s, and left content over s'
-pub record RunsOver (s : Stream) (o : Option ℕ) (k : ContentForm) (m : Mode) (handed left : Reading) (s' : Stream)
-    (o' : Option ℕ) : Type 0 where
-  pub stream : handed.stream ≡ s
-  pub owed : handed.owed ≡ o
-  pub kind : handed.kind ≡ k
-  pub state : handed.state ≡ Open
-  pub mode : handed.mode ≡ m
-  pub marked : handed.marked ≡ false
-  pub left_stream : left.stream ≡ s'
-  pub left_owed : left.owed ≡ o'
-  pub moves : Moves handed left
+-- no asked value is there, which content shows without a fault of the source
+pub record HasNone (asked : Asked) (c d : Reading) : Type 0 where
+  pub missing : IsMissing asked c d
+  pub marked : d.marked ≡ c.marked
+  pub no_fault : d.stream.faults ≡ c.stream.faults
 
-module _ {C T E : Type 0} (why : E → Cause ContentError) (view : C → Reading) (post : Tag → MutBor C → Result T E → MutBor C → Type 0) where
-  -- a closure ran on content over a source
-  pub record RanOver (s : Stream) (o : Option ℕ) (k : ContentForm) (m : Mode) (t : Tag) (r : Result T E) (mark : Bool) (s' : Stream)
-      (o' : Option ℕ) : Type 0 where
-    pub handed : Reading
-    pub left : Reading
-    pub runs : RunsOver s o k m handed left s' o'
-    pub marks : left.marked ≡ mark
-    pub answers : IfOk r (λ x. AnswersDone {R = Result T E} view post t handed (Ok x) left)
-    pub refuses : IfErr r (λ e. RefusesContent why view post t handed e left)
+-- the refusal if no value is there: that of a call for a tag names it
+abbrev pub TellsNone : {X : Type 0} → Asked → DecodeError X → Type 0
+TellsNone any e = IsRefusal e
+TellsNone (tagged t) e = cause_of e ≡ of_content (ExpectedTag t)
 
-  -- the content behind the header h was taken
-  pub record TakesContent (c : Reading) (h : Header) (r : Result T E) (d : Reading) : Type 0 where
-    pub passed : List ℕ
-    pub advances : Advances c d passed
-    pub state : d.state ≡ c.state
-    pub handed : Reading
-    pub left : Reading
-    pub marked : d.marked ≡ (c.marked || left.marked)
-    pub encodes : OnOk r ((octets : List ℕ) → IsHeader c.mode h.tag h.form h.len octets
-        → (tree : Tree) × IsEncoding (label c.mode left.marked) tree (octets ++ passed))
-    pub hands : Hands c.mode h.form h.len c.owed c.stream.rest handed
-    pub moves : Moves handed left
-    pub follows : h.len ≡ Indefinite → d.stream.rest ≡ left.stream.rest
-    pub faults_handed : handed.stream.faults ≡ c.stream.faults
-    pub faults_left : left.stream.faults ≡ d.stream.faults
-    pub answers : IfOk r (λ x. AnswersDone {R = Result T E} view post h.tag handed (Ok x) left)
-    pub refuses : IfErr r (λ e. RefusesContent why view post h.tag handed e left)
+-- a call returned what Gives says, and the source met no fault; or an error, of which IsRefused says why; the mode and the mark stay
+pub record Returns {T E : Type 0} (Gives : T → Type 0) (IsRefused : E → Type 0) (c : Reading) (r : Result T E) (d : Reading) : Type 0 where
+  pub value : IfOk r Gives
+  pub no_fault : OnOk r (d.stream.faults ≡ c.stream.faults)
+  pub refused : IfErr r IsRefused
+  pub mode : d.mode ≡ c.mode
+  pub marked : d.marked ≡ c.marked
 
--- what is still owed around a value of n octets, some of which are left
-abbrev pub popped : Option ℕ → ℕ → Option ℕ → Option ℕ
-popped (Some outer) n (Some left) = Some (outer - (n - left))
-popped (Some outer) n None = None
-popped None n o = None
+-- a call returned something of the next value, as Gives says, or that there is none; or an error, and content has failed
+abbrev pub NextBy : {T E : Type 0} → Asked → (Reading → T → Reading → Type 0) → (Reading → E → Reading → Type 0)
+    → Reading → Result (Option T) E → Reading → Type 0
+NextBy asked Gives IsRefused c r d =
+    Returns (λ o. MatchOption o (HasNone asked c d) (λ x. Gives c x d)) (λ e. (d.state ≡ Failed) × IsRefused c e d) c r d
+
+-- a call returned something of the next value, which it needs: if there is none, the content stays usable
+abbrev pub OneBy : {T X : Type 0} → Asked → (Reading → T → Reading → Type 0) → (Reading → DecodeError X → Reading → Type 0)
+    → Reading → Result T (DecodeError X) → Reading → Type 0
+OneBy asked Gives IsRefused c r d =
+    Returns (λ x. Gives c x d) (λ e. HasNone asked c d × TellsNone asked e ⊎ (d.state ≡ Failed) × IsRefused c e d) c r d
+
+module _ {C T X : Type 0} (view : C → Reading) (post : Tag → MutBor C → Result T (DecodeError X) → MutBor C → Type 0)
+    (form : Option Bool) (asked : Asked) where
+  -- why no value was taken from c, with error e: no asked header was passed, the value has the form that the call refuses, if any,
+  -- or its content was refused
+  pub data RefusesTake (c : Reading) (e : DecodeError X) (d : Reading) : Type 0 where
+    by_header : Refuses cause_of asked (NothingThere asked) ⊥ c e d → d.marked ≡ c.marked → RefusesTake c e d
+    by_form : (c.state ≡ Open) × (after : List ℕ) × (h : HasHeader asked c after) × (form ≡ Some h.form) → IsRefusal e
+        → d.marked ≡ c.marked → RefusesTake c e d
+    by_content : RefusesFront cause_of view post asked c e d → RefusesTake c e d
+
+  -- the effect of a call that returns the value, or that there is none
+  pub record TakesNext (c : Reading) (r : Result (Option T) (DecodeError X)) (d : Reading) : Type 0 where
+    pub value : IfOk r (λ o. IfSome o (λ x. TakesValue view post asked c x d))
+    pub shorter : IfOk r (λ o. IfSome o (λ _. length d.stream.rest + 2 ≤ length c.stream.rest))
+    pub none : IfOk r (λ o. IfNone o (HasNone asked c d))
+    pub refused : IfErr r (λ e. RefusesTake c e d)
+    pub failed : OnErr r (d.state ≡ Failed)
+    pub mode : d.mode ≡ c.mode
+
+  -- the effect of a call that needs a value: if there is none, the content stays usable
+  pub record Takes (c : Reading) (r : Result T (DecodeError X)) (d : Reading) : Type 0 where
+    pub value : IfOk r (λ x. TakesValue view post asked c x d)
+    pub shorter : OnOk r (length d.stream.rest + 2 ≤ length c.stream.rest)
+    pub refused : IfErr r (λ e. HasNone asked c d × TellsNone asked e ⊎ (d.state ≡ Failed) × RefusesTake c e d)
+    pub mode : d.mode ≡ c.mode

@@ -2,12 +2,10 @@
 use Rattle.std.specs.Prelude.{◌≡◌, ℕ, List, [], ◌++◌, length, Result, IfOk, IfErr}
 use Rattle.std.specs.Borrow.{MutBor}
 use denote.Triple.Both.{Both}
-use Rattle.bcder.specs.declared.mode.Mode.{Mode}
-use Rattle.bcder.specs.declared.decode.content.Constructed.{Constructed}
-use Rattle.bcder.specs.declared.decode.error.DecodeError.{DecodeError}
-use Rattle.bcder.specs.calls.Cause.{cause_of, of_memory}
+use Rattle.bcder.specs.declared.{mode.Mode.Mode, decode.content.Constructed.Constructed, decode.error.DecodeError.DecodeError}
 use Rattle.bcder.specs.x690.Tree.{Trees}
 use Rattle.bcder.specs.x690.Encoding.{AreEncodings}
+use Rattle.bcder.specs.calls.Cause.{cause_of, of_memory}
 use Rattle.bcder.specs.calls.Stream.{Stream, borrowed}
 use Rattle.bcder.specs.calls.Calls.{MayBeCalledOn, IsLawfulOn}
 use Rattle.bcder.specs.calls.Decoding.{IsAllBehind, Decodes, RefusesDecode}

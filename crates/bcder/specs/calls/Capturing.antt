@@ -1,25 +1,23 @@
--- What a capture requires of its closure, and what it returns and leaves.
-use Rattle.std.specs.Prelude.{◌≡◌, ◌≢◌, ◌||◌, ℕ, ◌-◌, ◌<◌, ◌≤◌, Bool, true, false, List, [], ◌++◌}
-use Rattle.std.specs.Prelude.{length, take, Option, Result, Ok, IfOk, IfErr, OnOk}
+-- What a capture requires of its closure, and what it returns and leaves; when a value is captured, and when all are.
+use Rattle.std.specs.Prelude.{◌≡◌, ◌≢◌, ◌||◌, ℕ, ◌<◌, ◌≤◌, true, false, List, [], ◌++◌, length, Option, Result, Ok, ◌⊎◌, ◌∷◌}
 use Rattle.std.specs.Borrow.{MutBor}
-use Rattle.bcder.specs.declared.mode.Mode.{Mode}
-use Rattle.bcder.specs.declared.decode.content.Constructed.{Constructed}
-use Rattle.bcder.specs.declared.decode.content.Kind.{Kind}
-use Rattle.bcder.specs.declared.decode.content.State.{State}
-use Rattle.bcder.specs.declared.decode.content.State.TheVariants.{Failed}
-use Rattle.bcder.specs.declared.decode.error.ContentError.{ContentError}
-use Rattle.bcder.specs.declared.decode.error.DecodeError.{DecodeError}
-use Rattle.bcder.specs.declared.decode.source.capture.CaptureSource.{CaptureSource}
-use Rattle.bcder.specs.declared.decode.source.limited.LimitedSource.{LimitedSource}
-use Rattle.bcder.specs.calls.Cause.{Cause, cause_of, of_source, of_memory}
-use Rattle.bcder.specs.x690.Length.{IsEndOfContents}
-use Rattle.bcder.specs.calls.Stream.{Stream, Grew, cut}
+use Rattle.bcder.specs.declared.{mode.Mode.Mode, decode.content.Constructed.Constructed, decode.content.State.State}
+use Rattle.bcder.specs.declared.{decode.error.DecodeError.DecodeError, decode.source.capture.CaptureSource.CaptureSource}
+use Rattle.bcder.specs.declared.{decode.source.limited.LimitedSource.LimitedSource}
+use Rattle.bcder.specs.declared.decode.content.State.TheVariants.{Failed, Open, Ended}
+use Rattle.bcder.specs.x690.Tree.{Tree, Trees}
+use Rattle.bcder.specs.x690.Encoding.{AreEncodings}
+use Rattle.bcder.specs.x690.Preorder.{Heading, preorder}
+use Rattle.bcder.specs.x690.Grammar.{IsOnly}
+use Rattle.bcder.specs.calls.Cause.{cause_of, of_source, of_memory}
+use Rattle.bcder.specs.calls.Stream.{Stream, Grew}
 use Rattle.bcder.specs.calls.Sources.{capturing}
 use Rattle.bcder.specs.calls.Captured.{Kept, AreWhole}
-use Rattle.bcder.specs.calls.Content.{ContentForm, Reading, values, label, Closes, Moves}
-use Rattle.bcder.specs.calls.Calls.{Answered, IsOver, MayBeCalledOn, IsLawfulOn}
+use Rattle.bcder.specs.calls.Content.{ContentForm, Reading, values, label, Closes, Moves, EndsBefore, IsDone, any, Refuses}
+use Rattle.bcder.specs.calls.Calls.{Answered, NextBy, Returns}
 use Rattle.bcder.specs.calls.Decoding.{RefusesOn}
 use Rattle.bcder.specs.calls.Views.{of_constructed, limited_stream}
+use Rattle.bcder.specs.calls.Walking.{HeadersFrom, HasNoNext, HasValue, ClosesBefore, HasValues}
 
 -- unmarked content of the octets w, over a source that has failed n times
 pub record IsHanded (w : List ℕ) (n : ℕ) (o : Option ℕ) (k : ContentForm) (st : State) (m : Mode) (i : Reading) : Type 0 where
@@ -89,80 +87,87 @@ module _ {C X : Type 0} (view : C → Reading) (post : MutBor C → Result (Unit
 abbrev pub of_captured : {S : Type 0} → (S → Stream) → Constructed (CaptureSource (LimitedSource S)) → Reading
 of_captured stream = of_constructed (capturing (limited_stream stream))
 
--- ---- an end marker after values
+-- ---- the next value, or all values
 
--- what follows values: end-of-contents octets if there is a marker, otherwise nothing
-abbrev pub IsMarker : Mode → Bool → List ℕ → Type 0
-IsMarker mode false e = e ≡ []
-IsMarker mode true e = IsEndOfContents mode e
+-- ---- what both leave
 
--- the octets w are these whole values, followed by the marker if there is one
-pub record EndsIn (mode : Mode) (marker : Bool) (w front : List ℕ) : Type 0 where
-  pub whole : AreWhole mode front
+-- octets were captured, as Q says; or none were, content is as it was, and there is none of what is asked for; memory runs out
+-- only if there is some
+abbrev pub CapturesBy : {X : Type 0} → (Reading → Kept → Reading → Type 0) → (Reading → Type 0) → (Reading → Type 0) → Reading
+    → Result Kept (DecodeError X) → Reading → Type 0
+CapturesBy Q HasNone HasSome c r d = Returns (λ k. Q c k d) (λ e. Refuses cause_of any HasNone ((cause_of e ≡ of_memory) × HasSome c) c e d
+    × (d.stream.rest ≡ c.stream.rest) × (d.owed ≡ c.owed) × (d.state ≡ c.state)) c r d
+
+-- headers in these octets, the first at their beginning, lead to a constructed value at a depth of four or more
+pub record LeadDeep (mode : Mode) (w : List ℕ) : Type 0 where
+  pub calls : List Heading
+  pub last : Heading
+  pub some : (t : Tree) × (more : List Heading) × (preorder t 0 ≡ (calls ++ last ∷ []) ++ more)
+  pub stand : HeadersFrom mode (calls ++ last ∷ []) w
+  pub constructed : last.constructed ≡ true
+  pub deep : 4 ≤ last.depth
+
+-- ---- one value
+
+-- a value comes next, or what comes next leads to a deep one
+pub data HasValueOrDeep (c : Reading) : Type 0 where
+  of_value : (t : Tree) (w after : List ℕ) → HasValue c t w after → HasValueOrDeep c
+  -- open content that is not at its end begins with headers that lead to a deep value
+  of_depth : c.state ≡ Open → ((after : List ℕ) → EndsBefore c after → ⊥) → LeadDeep c.mode c.stream.rest → HasValueOrDeep c
+
+-- the octets k are the one value that comes next in c, and d is left after it
+pub record CapturesValue (c : Reading) (k : Kept) (d : Reading) : Type 0 where
+  pub tree : Tree
+  pub has : HasValue c tree k.octets d.stream.rest
+  pub only : IsOnly c.mode tree k.octets c.stream.rest
+  pub mode : k.mode ≡ c.mode
+  pub start : k.start ≡ c.stream.position
+  pub stays : d.state ≡ Open
+
+-- the same by itself: open content that is not at its end begins with headers that lead to a deep value
+pub record BeginsDeep (c : Reading) : Type 0 where
+  pub usable : c.state ≡ Open
+  pub some : (after : List ℕ) → EndsBefore c after → ⊥
+  pub leads : LeadDeep c.mode c.stream.rest
+
+-- ---- the next value, if there is one
+
+-- the next value was captured, or content was at its end, or a value was refused; memory runs out only if a value comes next,
+-- or what does leads to a deep one
+abbrev pub CapturesNext : {X : Type 0} → Reading → Result (Option Kept) (DecodeError X) → Reading → Type 0
+CapturesNext = NextBy any CapturesValue
+    (λ i e j. Refuses cause_of any HasNoNext ((cause_of e ≡ of_memory) × HasValueOrDeep i) i e j)
+
+-- ---- all values
+
+-- the rest of open content, up to its end, is not encodings of values
+pub record HasOthers (c : Reading) : Type 0 where
+  pub usable : c.state ≡ Open
+  pub none : HasValues c → ⊥
+
+-- the octets begin with some values, and what follows these leads to a deep one
+pub record HasDeepBehind (mode : Mode) (w : List ℕ) : Type 0 where
+  pub values : Trees
+  pub front : List ℕ
+  pub behind : List ℕ
+  pub encode : AreEncodings mode values front
+  pub is : w ≡ front ++ behind
+  pub leads : LeadDeep mode behind
+
+-- open content, of which something is left, is values up to its end, or has a deep one after some
+pub record HasValuesOrDeep (c : Reading) : Type 0 where
+  pub usable : c.state ≡ Open
+  pub some : IsDone c → ⊥
+  pub there : HasValues c ⊎ HasDeepBehind c.mode c.stream.rest
+
+-- the octets k are all values up to the end of c, and d is at that end, its marker taken
+pub record CapturesValues (c : Reading) (k : Kept) (d : Reading) : Type 0 where
+  pub whole : AreWhole c.mode k.octets
   pub close : List ℕ
-  pub split : w ≡ front ++ close
-  pub is_marker : IsMarker mode marker close
-
--- the last n octets are a marker after whole values
-pub record EndsBy (mode : Mode) (w : List ℕ) (n : ℕ) : Type 0 where
-  pub fits : n ≤ length w
-  pub ends : EndsIn mode true w (take (length w - n) w)
-
--- ---- the steps inside a capture
-
-module _ {C E : Type 0} (why : E → Cause ContentError) (view : C → Reading)
-    (post : MutBor C → Result (Unit {0}) E → MutBor C → Type 0) where
-  -- a closure ran on content over a stream, in any state, and left it with this state and mark
-  pub record RanFrom (s : Stream) (o : Option ℕ) (k : Kind) (st : State) (m : Mode) (r : Result (Unit {0}) E) (st' : State) (mark : Bool)
-      (s' : Stream) (o' : Option ℕ) : Type 0 where
-    pub handed : Reading
-    pub left : Reading
-    pub from : IsOver s o (values k) st m handed
-    pub left_stream : left.stream ≡ s'
-    pub left_owed : left.owed ≡ o'
-    pub left_state : left.state ≡ st'
-    pub left_marked : left.marked ≡ mark
-    pub moves : Moves handed left
-    pub usable : OnOk r (left.state ≢ Failed)
-    pub answers : IfOk r (λ x. Answered {R = Result (Unit {0}) E} view post handed (Ok x) left)
-    pub refuses : IfErr r (λ e. RefusesOn why view post handed e left)
-
--- content over a source up to a limit, as a closure gets it, in any state
-abbrev pub HandsOver : Stream → Option ℕ → Kind → State → Mode → Reading → Type 0
-HandsOver s o k st m i = IsHanded (cut o s.rest) s.faults o (values k) st m i
-
-module _ {C X : Type 0} (view : C → Reading) (post : MutBor C → Result (Unit {0}) (DecodeError X) → MutBor C → Type 0) where
-  -- the octets b were passed by the closure, and then taken from the source
-  pub record TakesPassed (s : Stream) (handed : Reading) (b : List ℕ) (left : Reading) (s' : Stream) : Type 0 where
-    pub answered : Answered {R = Result (Unit {0}) (DecodeError X)} view post handed (Ok tt) left
-    pub usable : left.state ≢ Failed
-    pub rest : s.rest ≡ b ++ s'.rest
-    pub passed : handed.stream.rest ≡ b ++ left.stream.rest
-    pub faults : s'.faults ≡ left.stream.faults
-
-  -- no octets were taken from the source
-  pub record LeavesAll (s : Stream) (handed : Reading) (e : DecodeError X) (left : Reading) (s' : Stream) : Type 0 where
-    pub rest : s'.rest ≡ s.rest
-    pub refuses : RefusesLeft view post handed e left s'.faults
-
-  -- a closure ran over a source up to a limit: the octets that it passed were taken, or none were
-  pub record CapturesOver (s : Stream) (o : Option ℕ) (k : Kind) (st : State) (m : Mode) (r : Result (List ℕ) (DecodeError X)) (st' : State)
-      (mark : Bool) (s' : Stream) : Type 0 where
-    pub handed : Reading
-    pub left : Reading
-    pub hands : HandsOver s o k st m handed
-    pub left_state : left.state ≡ st'
-    pub left_marked : left.marked ≡ mark
-    pub moves : Moves handed left
-    pub kept : s'.kept ≡ s.kept
-    pub takes : IfOk r (λ b. TakesPassed s handed b left s')
-    pub refuses : IfErr r (λ e. LeavesAll s handed e left s')
-
-module _ {S : Type 0} (stream : S → Stream) where
-  -- the closure may be called on content over a capturing source over this source, up to a limit, and moves it
-  abbrev pub CallableOver : MutBor S → Option ℕ → Kind → State → Mode → (MutBor (Constructed (CaptureSource S)) → Type 0) → Type 0
-  CallableOver s o k st m pre = MayBeCalledOn (of_constructed (capturing stream)) (HandsOver (stream s.now) o k st m) pre
-
-  abbrev pub LawfulOver : {R : Type 0} → MutBor S → Option ℕ → Kind → State → Mode
-      → (MutBor (Constructed (CaptureSource S)) → R → MutBor (Constructed (CaptureSource S)) → Type 0) → Type 0
-  LawfulOver s o k st m post = IsLawfulOn (of_constructed (capturing stream)) (HandsOver (stream s.now) o k st m) post
+  pub rest : c.stream.rest ≡ k.octets ++ (close ++ d.stream.rest)
+  pub closes : Closes c.mode c close d
+  pub are_all : c.state ≡ Open → ClosesBefore c.kind c.mode c.owed k.octets (close ++ d.stream.rest)
+  pub are_none : c.state ≡ Ended → k.octets ≡ []
+  pub done : IsDone d
+  pub mode : k.mode ≡ c.mode
+  pub start : k.start ≡ c.stream.position

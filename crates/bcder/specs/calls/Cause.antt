@@ -1,11 +1,12 @@
--- What an error of decoding says.
+-- What errors say.
 use Rattle.std.specs.Prelude.{◌≡◌, ℕ, ◌++◌, Bool, true, false, List, Option, Some, None, codes, string_bytes}
 use Rattle.std.specs.Fmt.{decimal, ◌++?◌}
-use Rattle.bcder.specs.x690.Identifier.{Tag}
-use Rattle.bcder.specs.declared.decode.error.ContentError.{ContentError}
+use Rattle.bcder.specs.declared.{decode.error.ContentError.ContentError, decode.error.DecodeError.DecodeError}
+use Rattle.bcder.specs.declared.{int.error.IntegerError.IntegerError}
+use Rattle.bcder.specs.declared.int.error.IntegerError.TheVariants as integer
 use Rattle.bcder.specs.declared.decode.error.ContentError.TheVariants.{Static, Owned, ExpectedTag, ExpectedInteger, Boxed}
-use Rattle.bcder.specs.declared.decode.error.DecodeError.{DecodeError}
 use Rattle.bcder.specs.declared.decode.error.DecodeError.TheVariants.{Source, Content, NoMemory}
+use Rattle.bcder.specs.x690.Identifier.{Tag}
 
 -- why decoding failed, without the source's own error and the position; E is the type of content errors
 pub data Cause (E : Type 0) : Type 0 where
@@ -88,3 +89,8 @@ IsOfContent of_memory = ⊥
 
 abbrev pub IsRefusal : {S : Type 0} → DecodeError S → Type 0
 IsRefusal e = IsOfContent (cause_of e)
+
+-- one of two facts, by the reason why no integer was made
+abbrev pub MatchIntegerError : IntegerError → Type 0 → Type 0 → Type 0
+MatchIntegerError (integer.Invalid e) A B = A
+MatchIntegerError integer.NoMemory A B = B

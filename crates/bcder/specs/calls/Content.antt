@@ -1,25 +1,24 @@
 -- Content in the view of clauses: octets, numbers and marks, whatever source is below.
-use Rattle.std.specs.Prelude.{◌≡◌, ◌≢◌, ◌⊎◌, ℕ, ◌+◌, ◌<◌, ◌≤◌, Bool, true, false, List, [], ◌++◌, length, Option, Some, None}
+use Rattle.std.specs.Prelude.{ℕ, Option, Some, None, ◌≡◌, ◌≢◌, ◌⊎◌, ◌+◌, ◌<◌, ◌≤◌, Bool, true, false, List, [], ◌++◌, length}
 use Rattle.std.specs.Borrow.{GName}
-use Rattle.bcder.specs.declared.mode.Mode.{Mode}
-use Rattle.bcder.specs.declared.mode.Mode.TheVariants.{Ber}
-use Rattle.bcder.specs.declared.length.Length.{Length}
+use Rattle.bcder.specs.declared.{length.Length.Length, mode.Mode.Mode, mode.Mode.TheVariants.Ber, decode.content.Kind.Kind}
+use Rattle.bcder.specs.declared.{decode.content.State.State, decode.error.ContentError.ContentError}
+use Rattle.bcder.specs.declared.{decode.error.ContentError.TheVariants.Static, decode.violation.Violation.Violation}
 use Rattle.bcder.specs.declared.length.Length.TheVariants.{Definite, Indefinite}
-use Rattle.bcder.specs.declared.decode.content.Kind.{Kind}
 use Rattle.bcder.specs.declared.decode.content.Kind.TheVariants as kind
-use Rattle.bcder.specs.declared.decode.content.State.{State}
 use Rattle.bcder.specs.declared.decode.content.State.TheVariants.{Open, Ended, Failed}
+use Rattle.bcder.specs.declared.decode.violation.Violation.TheVariants as v
 use Rattle.bcder.specs.x690.Identifier.{Tag, IsTag, identifier, end_of_contents}
 use Rattle.bcder.specs.x690.Length.{IsEndOfContents}
 use Rattle.bcder.specs.x690.Tree.{Trees}
-use Rattle.bcder.specs.x690.Encoding.{IsHeader, AreEncodings, Header}
-use Rattle.bcder.specs.calls.Stream.{Stream}
-use Rattle.bcder.specs.declared.decode.error.ContentError.{ContentError}
-use Rattle.bcder.specs.declared.decode.error.ContentError.TheVariants.{Static}
-use Rattle.bcder.specs.declared.decode.violation.Violation.{Violation}
-use Rattle.bcder.specs.declared.decode.violation.Violation.TheVariants as v
-use Rattle.bcder.specs.calls.Cause.{Cause, of_content, IsOfContent}
+use Rattle.bcder.specs.x690.Encoding.{IsHeader, AreEncodings}
+use Rattle.bcder.specs.calls.Stream.{Stream, Grew}
+use Rattle.bcder.specs.calls.Cause.{Cause, of_content, IsOfContent, of_source}
 use Rattle.bcder.specs.calls.Violations.{violation_text, ViolatesFront}
+
+abbrev pub length_of : Option ℕ → Length
+length_of (Some n) = Definite n
+length_of None = Indefinite
 
 -- the form of content: octets, or values whose end is known in one of three ways
 pub data ContentForm : Type 0 where
@@ -85,16 +84,6 @@ pub record MovesBy (c d : Reading) : Type 0 where
 -- lawful steps lead from content c to content d: the one relation of all content calls and closures
 unfoldable pub Moves : Reading → Reading → Type 0
 Moves c d = MovesBy c d
-
--- octets were passed, and neither the kind nor the mode changed
-pub record Advances (c d : Reading) (passed : List ℕ) : Type 0 where
-  pub rest : c.stream.rest ≡ passed ++ d.stream.rest
-  pub owed : Falls c.owed (length passed) d.owed
-  pub kept : d.stream.kept ≡ c.stream.kept
-  pub faults : c.stream.faults ≤ d.stream.faults
-  pub kind : d.kind ≡ c.kind
-  pub mode : d.mode ≡ c.mode
-  pub name : d.name ≡ c.name
 
 -- ---- what comes next
 
@@ -181,32 +170,6 @@ pub record NothingThere (asked : Asked) (c : Reading) : Type 0 where
   pub header : (after : List ℕ) → HasHeader asked c after → ⊥
   pub absent : (after : List ℕ) → IsAbsent asked c after → ⊥
 
--- ---- a header that was read
-
--- the header of a value was passed without a fault of the source, and content is failed until the value is taken
-pub record Enters (c : Reading) (h : Header) (d : Reading) : Type 0 where
-  pub octets : List ℕ
-  pub is_header : IsHeader c.mode h.tag h.form h.len octets
-  pub advances : Advances c d octets
-  pub no_fault : d.stream.faults ≡ c.stream.faults
-  pub unmarked : d.marked ≡ c.marked
-  pub usable : c.state ≡ Open
-  pub opened : d.state ≡ Failed
-  pub fits : FitsOwed h.len d.owed
-
--- an end marker was taken
-pub record TakesMarker (c d : Reading) : Type 0 where
-  pub usable : c.state ≡ Open
-  pub kind : c.kind ≡ values kind.Indefinite
-  pub marker : HasMarker c.mode c.stream.rest d.stream.rest
-  pub ended : d.state ≡ Ended
-
--- the next octets are neither the header of a value nor an end marker
-pub record NoFront (c : Reading) : Type 0 where
-  pub some : c.stream.rest ≢ []
-  pub header : (asked : Asked) (after : List ℕ) → HasHeader asked c after → ⊥
-  pub marker : c.kind ≡ values kind.Indefinite → (after : List ℕ) → HasMarker c.mode c.stream.rest after → ⊥
-
 -- d is the content c, over a source that gives the same octets
 pub record Resembles (c d : Reading) : Type 0 where
   pub rest : d.stream.rest ≡ c.stream.rest
@@ -234,3 +197,14 @@ pub data Violates (c : Reading) (r : Violation) : Type 0 where
 pub record NamesFront (asked : Asked) (why : Cause ContentError) (c : Reading) : Type 0 where
   pub refused : IsOfContent why
   pub named : NothingThere asked c → (r : Violation) × Violates c r × (why ≡ of_content (Static (violation_text r)))
+
+-- ---- why a call refuses
+
+-- why e was returned for content c, which is d then: an earlier value was refused, the source failed, c has none of what is
+-- asked for, or another reason that the call has; `why` gives the cause of e
+pub data Refuses {E : Type 0} (why : E → Cause ContentError) (asked : Asked) (HasNone : Reading → Type 0) (Other : Type 0)
+    (c : Reading) (e : E) (d : Reading) : Type 0 where
+  failed : c.state ≡ Failed → IsOfContent (why e) → Refuses why asked HasNone Other c e d
+  source : why e ≡ of_source → Grew c.stream.faults d.stream.faults → Refuses why asked HasNone Other c e d
+  nothing : HasNone c → NamesFront asked (why e) c → Refuses why asked HasNone Other c e d
+  otherwise : Other → Refuses why asked HasNone Other c e d

@@ -1,19 +1,40 @@
--- What the calls of encoders return, by what the encoders mean.
-use Rattle.std.specs.Prelude.{◌≡◌, ◌≢◌, ℕ, Bool, true, false, List, [], length, Result, Ok, Err, Option, None, Some, ◌⊎◌, ◌^◌, ◌<◌, ◌≤◌}
+-- What the calls of encoders return and write, by what the encoders mean.
+use Rattle.std.specs.Prelude.{◌≡◌, ◌≢◌, ℕ, List, [], ◌++◌, Option, Bool, true, false, length, Result, Ok, Err, None, Some, ◌⊎◌, ◌^◌, ◌<◌}
+use Rattle.std.specs.Prelude.{◌≤◌}
 use Rattle.std.specs.Borrow.{MutBor}
 use Rattle.std.specs.Io.KnownBytes.{Appends, Keeps}
 use denote.Triple.Both.{Both}
-use Rattle.bcder.specs.declared.encode.error.EncodeError.{EncodeError}
+use Rattle.bcder.specs.declared.{encode.error.EncodeError.EncodeError, encode.error.WriteError.WriteError, encode.slot.Failed.Failed}
+use Rattle.bcder.specs.declared.{length.Length.Length, length.Length.TheVariants.Definite}
 use Rattle.bcder.specs.declared.encode.error.EncodeError.TheVariants.{NoMemory, EndOfValueTag, LengthTooLarge}
-use Rattle.bcder.specs.declared.encode.error.WriteError.{WriteError}
 use Rattle.bcder.specs.declared.encode.error.WriteError.TheVariants.{Refused, Target}
-use Rattle.bcder.specs.declared.encode.slot.Failed.{Failed}
-use Rattle.bcder.specs.declared.length.Length.{Length}
-use Rattle.bcder.specs.declared.length.Length.TheVariants.{Definite}
 use Rattle.bcder.specs.x690.Identifier.{Tag, IsValueTag, end_of_contents}
 use Rattle.bcder.specs.x690.Octets.{header, definite, length_octets, fits_length}
 use Rattle.bcder.specs.calls.Meaning.{Encoded, Meaning, ContentsMeaning, IsOne}
-use Rattle.bcder.specs.calls.Target.{AppendsFront, AppendsShorter}
+
+-- the known octets grew by a prefix of w
+pub record AppendsFront (old new : Option (List ℕ)) (w : List ℕ) : Type 0 where
+  pub front : List ℕ
+  pub rest : List ℕ
+  pub appends : Appends old new front
+  pub whole : w ≡ front ++ rest
+
+-- the known octets grew by a proper prefix of w
+pub record AppendsShorter (old new : Option (List ℕ)) (w : List ℕ) : Type 0 where
+  pub front : List ℕ
+  pub rest : List ℕ
+  pub appends : Appends old new front
+  pub whole : w ≡ front ++ rest
+  pub shorter : rest ≢ []
+
+module _ {W : Type 0} (contents : W → Option (List ℕ)) (target : Both (MutBor W) (MutBor W)) where
+  -- w was appended
+  abbrev pub Appended : List ℕ → Type 0
+  Appended w = Appends (contents target.entry.now) (contents target.exit.now) w
+
+  -- a proper prefix of w was appended
+  abbrev pub AppendedShorter : List ℕ → Type 0
+  AppendedShorter w = AppendsShorter (contents target.entry.now) (contents target.exit.now) w
 
 -- ---- refusals and sizes
 
@@ -64,10 +85,10 @@ pub record WroteOf (lacks : Type 0) (w : List ℕ) (old new : Option (List ℕ))
   pub done : DoneOf lacks w old new r
 
 -- r says how the writing of what is meant went: it is octets, and they were written; or it was refused, and nothing was written
-abbrev pub Writes : {A : Type 0} → (A → List ℕ) → (Result A EncodeError → Type 0) → Type 0 → Option (List ℕ) → Option (List ℕ)
-    → Result (Unit {0}) WriteError → Type 0
-Writes octets M lacks old new r = ((a : _) × M (Ok a) × WroteOf lacks (octets a) old new r)
-    ⊎ ((e : EncodeError) × (r ≡ Err (Refused e)) × RefusesBy M lacks e × Keeps old new)
+pub record Writes {A : Type 0} (octets : A → List ℕ) (M : Result A EncodeError → Type 0) (lacks : Type 0) (old new : Option (List ℕ))
+    (r : Result (Unit {0}) WriteError) : Type 0 where
+  pub went : ((a : A) × M (Ok a) × WroteOf lacks (octets a) old new r)
+      ⊎ ((e : EncodeError) × (r ≡ Err (Refused e)) × RefusesBy M lacks e × Keeps old new)
 
 -- r says how the writing of what is meant went, if that is known to be no refusal
 abbrev pub WritesEncoding : (Meaning → Type 0) → Type 0 → Option (List ℕ) → Option (List ℕ) → Result (Unit {0}) WriteError → Type 0

@@ -1,27 +1,107 @@
--- What the items of an iterator mean.
-use Rattle.std.specs.Prelude.{All, ◌≡◌, List, [], ◌∷◌, Option, Some, None, Ok, Err, ◌⊎◌}
+-- What encoders mean of optional values, of one of several, of the items of a slice through a closure, and of an iterator.
+use Rattle.std.specs.Prelude.{Option, None, Some, ⊤, ℕ, List, ◌≡◌, ◌⊎◌, All, [], ◌∷◌, Ok, Err}
 use Rattle.std.specs.Iterator.{Count, IsFinite, Yields}
-use Rattle.std.proofs.Common.{inl, inr, subst, sym, refl}
-use Rattle.bcder.specs.declared.encode.error.EncodeError.{EncodeError}
-use Rattle.bcder.specs.declared.mode.Mode.{Mode}
-use Rattle.bcder.specs.calls.Meaning.{Encoded, Meaning, IsLawful}
-use Rattle.bcder.specs.calls.Joined.{EachOf, NoValues}
-use Rattle.bcder.specs.calls.Slices.{SameMeaning}
-use Rattle.bcder.specs.laws.Joined.{EachOf_lawful}
+use denote.Ref.{Bor}
+use denote.Param.Members.{Shared}
+use Rattle.bcder.specs.declared.{encode.values.choice.Choice2.Choice2, encode.values.choice.Choice3.Choice3, mode.Mode.Mode}
+use Rattle.bcder.specs.declared.encode.values.choice.Choice2.TheVariants as two
+use Rattle.bcder.specs.declared.encode.values.choice.Choice3.TheVariants as three
+use Rattle.bcder.specs.calls.Meaning.{Meaning, NoValues, EachOf}
+use Rattle.bcder.specs.calls.Noted.{ReadsNone}
+
+-- ---- optional values
+
+abbrev pub OptionMeans : {X : Type 0} → (X → Meaning → Type 0) → Option X → Meaning → Type 0
+OptionMeans M (Some x) m = M x m
+OptionMeans M None m = NoValues m
+
+abbrev pub OptionLacks : {X : Type 0} → (X → Type 0) → Option X → Type 0
+OptionLacks P (Some x) = P x
+OptionLacks P None = ⊥
+
+abbrev pub OptionReads : {X : Type 0} → (X → List ℕ → List ℕ → Type 0) → Option X → List ℕ → List ℕ → Type 0
+OptionReads R (Some x) = R x
+OptionReads R None = ReadsNone
+
+abbrev pub OptionCan : {X : Type 0} → (X → Type 0) → Option X → Type 0
+OptionCan P (Some x) = P x
+OptionCan P None = ⊤
+
+-- ---- one of two
+
+abbrev pub EitherHolds : {L R : Type 0} → (L → Type 0) → (R → Type 0) → Choice2 L R → Type 0
+EitherHolds P Q (two.One x) = P x
+EitherHolds P Q (two.Two y) = Q y
+
+abbrev pub EitherMeans : {L R : Type 0} → (L → Meaning → Type 0) → (R → Meaning → Type 0) → Choice2 L R → Meaning → Type 0
+EitherMeans M N c m = EitherHolds (λ x. M x m) (λ y. N y m) c
+
+abbrev pub EitherReads : {L R : Type 0} → (L → List ℕ → List ℕ → Type 0) → (R → List ℕ → List ℕ → Type 0) → Choice2 L R
+    → List ℕ → List ℕ → Type 0
+EitherReads P Q c old new = EitherHolds (λ x. P x old new) (λ y. Q y old new) c
+
+-- ---- one of three
+
+abbrev pub AnyHolds : {L C R : Type 0} → (L → Type 0) → (C → Type 0) → (R → Type 0) → Choice3 L C R → Type 0
+AnyHolds P Q S (three.One x) = P x
+AnyHolds P Q S (three.Two y) = Q y
+AnyHolds P Q S (three.Three z) = S z
+
+abbrev pub AnyMeans : {L C R : Type 0} → (L → Meaning → Type 0) → (C → Meaning → Type 0) → (R → Meaning → Type 0)
+    → Choice3 L C R → Meaning → Type 0
+AnyMeans M N O c m = AnyHolds (λ x. M x m) (λ y. N y m) (λ z. O z m) c
+
+abbrev pub AnyReads : {L C R : Type 0} → (L → List ℕ → List ℕ → Type 0) → (C → List ℕ → List ℕ → Type 0) → (R → List ℕ → List ℕ → Type 0)
+    → Choice3 L C R → List ℕ → List ℕ → Type 0
+AnyReads P Q S c old new = AnyHolds (λ x. P x old new) (λ y. Q y old new) (λ z. S z old new) c
+
+-- ---- items of a slice, through a closure
+
+-- whatever v means, w means
+pub record SameMeaning {V : Type 0} (means : V → Mode → Meaning → Type 0) (v w : V) : Type 0 where
+  pub same : (mode : Mode) (m : Meaning) → means v mode m → means w mode m
+
+module _ {F U V : Type 0} (g : Shared F (Bor U × Unit {0}) V) (f : F) where
+  -- the closure may be called on a reference to u
+  abbrev pub TakesItem : U → Type 0
+  TakesItem u = (p : Bor U) → p.now ≡ u → g.pre f (p, tt)
+
+  -- the closure may give v for u
+  pub record Gives (u : U) (v : V) : Type 0 where
+    pub shown : Bor U
+    pub shows : shown.now ≡ u
+    pub met : g.post f (shown, tt) v
+
+  -- what the closure gives for u may be encoded
+  abbrev pub GivesEncodable : (V → Type 0) → U → Type 0
+  GivesEncodable can u = (v : V) (p : Bor U) → p.now ≡ u → g.post f (p, tt) v → can v
+
+  -- all that the closure gives for u means the same
+  abbrev pub GivesOne : (V → Mode → Meaning → Type 0) → U → Type 0
+  GivesOne means u = (v w : V) (p q : Bor U) → p.now ≡ u → q.now ≡ u → g.post f (p, tt) v → g.post f (q, tt) w
+      → (v ≡ w) ⊎ SameMeaning means v w
+
+  -- what is required of a closure for u: it may be called, and gives one meaning, of something that may be encoded
+  abbrev pub MayMap : (V → Type 0) → (V → Mode → Meaning → Type 0) → U → Type 0
+  MayMap can means u = TakesItem u × GivesEncodable can u × GivesOne means u
+
+  -- what u means: what the closure gives for it
+  pub record ItemMeans (means : V → Mode → Meaning → Type 0) (mode : Mode) (u : U) (m : Meaning) : Type 0 where
+    pub value : V
+    pub given : Gives u value
+    pub meant : means value mode m
+
+  -- when memory may run out for u
+  pub record ItemLacks (may_lack : V → Mode → Type 0) (mode : Mode) (u : U) : Type 0 where
+    pub value : V
+    pub given : Gives u value
+    pub lacks : may_lack value mode
+
+-- ---- items of an iterator
 
 -- y and z mean the same
 abbrev pub MeanSame : {A : Type 0} → (A → Mode → Meaning → Type 0) → A → A → Type 0
 MeanSame means y z = (z ≡ y) ⊎ (SameMeaning means z y × SameMeaning means y z)
-
-pub to_first : {A : Type 0} (means : A → Mode → Meaning → Type 0) (y z : A) → MeanSame means y z → (mode : Mode) (m : Meaning)
-    → means z mode m → means y mode m
-to_first means y z (inl is) mode m h = subst (λ x. means x mode m) is h
-to_first means y z (inr s) mode m h = s.0.same mode m h
-
-pub to_second : {A : Type 0} (means : A → Mode → Meaning → Type 0) (y z : A) → MeanSame means y z → (mode : Mode) (m : Meaning)
-    → means y mode m → means z mode m
-to_second means y z (inl is) mode m h = rw is h
-to_second means y z (inr s) mode m h = s.1.same mode m h
 
 module _ {T I A : Type 0} (is_clone : T → T → Type 0) (gives : T → I → Type 0) (steps : I → Option A → I → Type 0) where
   -- a clone of x has given xs so far
@@ -73,60 +153,3 @@ pub record GivesOneList {T I A : Type 0} (is_clone : T → T → Type 0) (gives 
   pub all_can : All can items
   pub may_call : (t : T) (i : I) → is_clone x t → gives t i → can_next i × IsFinite (left i)
   pub same : (t : T) (i : I) → is_clone x t → gives t i → AlwaysGives steps can means i items
-
-module _ {I A : Type 0} (steps : I → Option A → I → Type 0) (can : A → Type 0) (means : A → Mode → Meaning → Type 0) where
-  -- xs is a prefix of ys, and t gives the others
-  pub record Follows (mode : Mode) (xs ys : List A) (t : I) : Type 0 where
-    pub rest : List A
-    pub gives_rest : AlwaysGives steps can means t rest
-    pub refused : (e : EncodeError) → EachOf (λ v. means v mode) xs (Err e) → EachOf (λ v. means v mode) ys (Err e)
-    pub whole : rest ≡ [] → (z : Encoded) → EachOf (λ v. means v mode) xs (Ok z) → EachOf (λ v. means v mode) ys (Ok z)
-
-  no_refusal : (e : EncodeError) → NoValues (Err e) → ⊥
-  no_refusal e r = cc
-
-  pub follows : (mode : Mode) (s t : I) (xs ys : List A) → AlwaysGives steps can means s ys → Yields steps s xs t → Follows mode xs ys t
-  follows mode s t [] ys h run = record {
-    rest = ys;
-    gives_rest = subst (λ i. AlwaysGives steps can means i ys) run h;
-    refused = λ e r. absurd (no_refusal e r);
-    whole = λ none z r. subst (λ l. EachOf (λ v. means v mode) l (Ok z)) (sym none) r;
-  }
-  follows mode s t (x ∷ xs) [] h run = absurd (h x run.0 run.1)
-  follows mode s t (x ∷ xs) (y ∷ ys) h run =
-      let at = h.1 x run.0 run.1 in
-      let f = follows mode run.0 t xs ys at.1 run.2 in
-      let same = to_first means y x at.0.1 mode in
-      record {
-        rest = f.rest;
-        gives_rest = f.gives_rest;
-        refused = λ e r. elim r
-            [ inl now ↦ inl (same (Err e) now) | inr later ↦ inr (later.0, same (Ok later.0) later.1, f.refused e later.2) ];
-        whole = λ none z r. (r.0, r.1, same (Ok r.0) r.2, f.whole none r.1 r.3, r.4);
-      }
-
-  -- at the end nothing is left
-  pub none_left : (t u : I) (rest : List A) → AlwaysGives steps can means t rest → steps t None u → rest ≡ []
-  none_left t u [] h s = refl
-  none_left t u (y ∷ ys) h s = absurd (h.0 u s)
-
-module _ {T I A : Type 0} {is_clone : T → T → Type 0} {gives : T → I → Type 0} {steps : I → Option A → I → Type 0} {can_next : I → Type 0}
-    {left : I → Count} {can : A → Type 0} {means : A → Mode → Meaning → Type 0} {x : T}
-    (one : GivesOneList is_clone gives steps can_next left can means x) (mode : Mode) where
-  -- whatever a run means, the list means
-  pub as_listed : (m : Meaning) → RunsMean is_clone gives steps (λ v. means v mode) x m → EachOf (λ v. means v mode) one.items m
-  as_listed (Ok z) (xs, lists, each) =
-      let b = lists.begins in
-      let f = follows steps can means mode b.from b.to xs one.items (one.same b.copy b.from b.cloned b.made) b.ran in
-      f.whole (none_left steps can means b.to lists.left f.rest f.gives_rest lists.ends) z each
-  as_listed (Err e) (xs, b, each) =
-      let f = follows steps can means mode b.from b.to xs one.items (one.same b.copy b.from b.cloned b.made) b.ran in
-      f.refused e each
-
-  pub runs_lawful : ((v : A) → can v → IsLawful mode (means v mode)) → IsLawful mode (RunsMean is_clone gives steps (λ v. means v mode) x)
-  runs_lawful lawful =
-      let listed = EachOf_lawful mode lawful one.items one.all_can in
-      record {
-        one = record { same = λ m n p q. listed.one.same m n (as_listed m p) (as_listed n q) };
-        encodes = λ e p. listed.encodes e (as_listed (Ok e) p);
-      }

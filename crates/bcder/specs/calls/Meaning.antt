@@ -1,12 +1,11 @@
 -- What an encoder means in a mode: a list of values with the octets that are written for them, or a refusal.
 use Rattle.std.specs.Prelude.{◌≡◌, ℕ, ◌^◌, Bool, true, false, List, [], ◌∷◌, length, nat_lt, nat_le, Result, Ok, Err, ◌⊎◌, if◌then◌else◌}
-use Rattle.bcder.specs.declared.encode.error.EncodeError.{EncodeError}
+use Rattle.std.specs.Prelude.{◌<◌, ◌≤◌, ◌++◌, Option, None, Some}
+use Rattle.bcder.specs.declared.{encode.error.EncodeError.EncodeError, mode.Mode.Mode, mode.Mode.TheVariants.Cer}
 use Rattle.bcder.specs.declared.encode.error.EncodeError.TheVariants.{EndOfValueTag, LengthTooLarge, SizeOverflow}
-use Rattle.bcder.specs.declared.mode.Mode.{Mode}
-use Rattle.bcder.specs.declared.mode.Mode.TheVariants.{Cer}
 use Rattle.bcder.specs.x690.Identifier.{AreOctets, Tag, IsValueTag, end_of_contents}
 use Rattle.bcder.specs.x690.BitString.{Bits, contents_octets, as_written}
-use Rattle.bcder.specs.x690.Tree.{Trees, primitive, constructed, no_trees, ◌∷ₜ◌}
+use Rattle.bcder.specs.x690.Tree.{Trees, primitive, constructed, no_trees, ◌∷ₜ◌, ◌+++◌}
 use Rattle.bcder.specs.x690.Encoding.{AreEncodings}
 use Rattle.bcder.specs.x690.Octets.{definite, enclosed, enclosed_size}
 
@@ -99,3 +98,35 @@ abbrev pub constructed_meaning : Tag → Mode → Meaning → Meaning
 constructed_meaning t mode (Err e) = Err e
 constructed_meaning t mode (Ok x) =
     if fits_enclosed mode t (length x.octets) then Ok (constructed_encoded mode t x) else Err (enclosed_refusal mode)
+
+-- ---- several encoders, one after the other
+
+abbrev pub nothing : Encoded
+nothing = record { values = no_trees; octets = [] }
+
+abbrev pub join : Encoded → Encoded → Encoded
+join x y = record { values = x.values +++ y.values; octets = x.octets ++ y.octets }
+
+-- no values
+abbrev pub NoValues : Meaning → Type 0
+NoValues m = m ≡ Ok nothing
+
+-- M, and then N if M isn't refused; sizes are not looked at
+abbrev pub Then : (Meaning → Type 0) → (Meaning → Type 0) → Meaning → Type 0
+Then M N (Err e) = M (Err e) ⊎ ((x : Encoded) × M (Ok x) × N (Err e))
+Then M N (Ok z) = (x : Encoded) × (y : Encoded) × M (Ok x) × N (Ok y) × (z ≡ join x y)
+
+-- each of a list, in order
+abbrev pub EachOf : {X : Type 0} → (X → Meaning → Type 0) → List X → Meaning → Type 0
+EachOf M [] m = NoValues m
+EachOf M (x ∷ xs) m = Then (M x) (EachOf M xs) m
+
+-- refused if the sum of the sizes exceeds `usize`
+abbrev pub Joined : (Meaning → Type 0) → Meaning → Type 0
+Joined M (Ok z) = M (Ok z) × (length z.octets < 2 ^ 64)
+Joined M (Err e) = M (Err e) ⊎ ((e ≡ SizeOverflow) × ((z : Encoded) × M (Ok z) × (2 ^ 64 ≤ length z.octets)))
+
+-- a sum of sizes, if it fits `usize`
+abbrev pub IsSum : Option ℕ → ℕ → Type 0
+IsSum (Some n) k = n ≡ k
+IsSum None k = 2 ^ 64 ≤ k

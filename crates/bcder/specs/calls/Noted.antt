@@ -1,8 +1,6 @@
 -- The sizes that are noted when encoders are measured, and read when they are written.
 use Rattle.std.specs.Prelude.{◌≡◌, ℕ, List, [], ◌∷◌, ◌++◌, length, take, Ok, ◌⊎◌}
-use Rattle.bcder.specs.declared.encode.sizes.Sizes.{Sizes}
-use Rattle.bcder.specs.declared.mode.Mode.{Mode}
-use Rattle.bcder.specs.declared.mode.Mode.TheVariants.{Cer}
+use Rattle.bcder.specs.declared.{encode.sizes.Sizes.Sizes, mode.Mode.Mode, mode.Mode.TheVariants.Cer}
 use Rattle.bcder.specs.calls.Meaning.{Encoded, Meaning}
 
 -- the noted sizes

@@ -4,11 +4,8 @@ use Rattle.std.specs.Borrow.{MutBor}
 use Rattle.std.specs.List.{FoldsTo}
 use Rattle.std.specs.declared.vec.Vec.{Vec}
 use Rattle.std.specs.declared.alloc.Global.{Global}
-use denote.Triple.Both.{Both}
-use Rattle.bcder.specs.declared.decode.content.Constructed.{Constructed}
-use Rattle.bcder.specs.declared.decode.error.ContentError.{ContentError}
-use Rattle.bcder.specs.declared.decode.error.DecodeError.{DecodeError}
-use Rattle.bcder.specs.calls.Cause.{Cause, of_memory, cause_of, IsOfContent}
+use Rattle.bcder.specs.declared.{decode.content.Constructed.Constructed, decode.error.ContentError.ContentError}
+use Rattle.bcder.specs.calls.Cause.{Cause, of_memory, IsOfContent}
 use Rattle.bcder.specs.calls.Stream.{Stream}
 use Rattle.bcder.specs.calls.Content.{Reading, Moves}
 use Rattle.bcder.specs.calls.Views.{of_constructed}
@@ -109,18 +106,3 @@ abbrev pub RepeatsLawfully : {S F T E : Type 0} → (S → Stream) → MutBor (C
 RepeatsLawfully {S} {F} {T} {E} stream c step = (f : F) (p : MutBor (Constructed S)) (a : Answer T E) (q : MutBor (Constructed S)) (g : F)
     → Moves (of_constructed stream c.now) (of_constructed stream p.now) → step f p a q g
     → Moves (of_constructed stream p.now) (of_constructed stream q.now)
-
--- the closure f was called over content until it returned `None`, refused, or took nothing
-abbrev pub Repeated : {S F X : Type 0} → (S → Stream) → Both (MutBor (Constructed S)) (MutBor (Constructed S))
-    → (F → MutBor (Constructed S) → Answer (Unit {0}) (DecodeError X) → MutBor (Constructed S) → F → Type 0) → F
-    → Result (Unit {0}) (DecodeError X) → Type 0
-Repeated stream c step f r =
-    Repeats cause_of (of_constructed stream) step f (of_constructed stream c.entry.now) r (of_constructed stream c.exit.now)
-
--- the closure f was called over content, and what it returned collected, until it returned `None`, refused, took nothing,
--- or memory ran out for what it returned
-abbrev pub Collected : {S F T X : Type 0} → (S → Stream) → Both (MutBor (Constructed S)) (MutBor (Constructed S))
-    → (F → MutBor (Constructed S) → Answer T (DecodeError X) → MutBor (Constructed S) → F → Type 0) → F
-    → Result (Vec T Global) (DecodeError X) → Type 0
-Collected stream c step f r =
-    Collects cause_of (of_constructed stream) step f (of_constructed stream c.entry.now) r (of_constructed stream c.exit.now)

@@ -1,13 +1,12 @@
 -- What an octet string means in a mode (ITU-T X.690, 8.7, 9.2, 10.2).
 use Rattle.std.specs.Prelude.{◌≡◌, ℕ, zero, suc, ◌-◌, ◌/◌, Bool, true, false, List, length, take, drop, nat_lt, Ok, Err, if◌then◌else◌}
-use Rattle.bcder.specs.declared.mode.Mode.{Mode}
+use Rattle.bcder.specs.declared.{mode.Mode.Mode}
 use Rattle.bcder.specs.declared.mode.Mode.TheVariants.{Ber, Cer}
 use Rattle.bcder.specs.x690.Identifier.{Tag}
 use Rattle.bcder.specs.x690.OctetString.{octet_string_tag}
 use Rattle.bcder.specs.calls.StringOctets.{StringOctets, cut, octets_of}
-use Rattle.bcder.specs.calls.Meaning.{Encoded, Meaning, ContentsMeaning, ExactlyOctets, ValueMeans}
-use Rattle.bcder.specs.calls.Meaning.{primitive_encoded, primitive_meaning, constructed_meaning}
-use Rattle.bcder.specs.calls.Joined.{join}
+use Rattle.bcder.specs.calls.Meaning.{Encoded, Meaning, ContentsMeaning, ExactlyOctets, ValueMeans, primitive_encoded, primitive_meaning}
+use Rattle.bcder.specs.calls.Meaning.{constructed_meaning, join}
 use Rattle.bcder.specs.calls.Gathered.{KeptMeans}
 
 -- the number of segments of 1000 octets before the last one, which has 1 to 1000

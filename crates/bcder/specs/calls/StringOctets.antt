@@ -1,11 +1,13 @@
 -- Octet strings as they are kept: in one piece, or cut into parts.
-use Rattle.std.specs.Prelude.{◌≡◌, ℕ, Bool, true, false, List, [], ◌∷◌, ◌++◌, ⊤}
+use Rattle.std.specs.Prelude.{◌≡◌, ℕ, Bool, true, false, List, [], ◌∷◌, ◌++◌, ⊤, ◌+◌, ◌/◌, length, take, drop}
 use Rattle.std.specs.List.{concat}
-use Rattle.bcder.specs.declared.mode.Mode.{Mode}
+use Rattle.std.proofs.Common.{zero, suc}
+use Rattle.std.specs.Hash as fed
+use Rattle.bcder.specs.declared.{mode.Mode.Mode}
 use Rattle.bcder.specs.x690.Tree.{Tree, primitive, constructed}
 use Rattle.bcder.specs.x690.Encoding.{AreEncodings}
-use Rattle.bcder.specs.calls.Captured.{Kept}
 use Rattle.bcder.specs.x690.OctetString.{segments_of, IsOctetString}
+use Rattle.bcder.specs.calls.Captured.{Kept}
 
 -- an octet string as it came: in one piece, or cut into parts, with the encodings that hold these
 pub data StringOctets : Type 0 where
@@ -56,3 +58,18 @@ MeansString mode t s = IsOctetString mode t × IsStringOf mode t s
 abbrev pub IsCut : StringOctets → Type 0
 IsCut (whole w) = ⊥
 IsCut (cut kept ps) = ⊤
+
+-- ---- hashing
+
+-- the first n blocks of 64 octets, the last of which ends where the octets do
+abbrev pub first_blocks : ℕ → List ℕ → List (List ℕ)
+first_blocks zero w = []
+first_blocks (suc n) w = take 64 w ∷ first_blocks n (drop 64 w)
+
+-- octets in blocks of 64, the last of which may be shorter
+abbrev pub blocks : List ℕ → List (List ℕ)
+blocks w = first_blocks ((length w + 63) / 64) w
+
+-- what a hasher gets: the number of octets, then the octets in blocks of 64
+abbrev pub hashed : List ℕ → fed.HashWrites
+hashed w = fed.usize (length w) ++ blocks w

@@ -1,6 +1,6 @@
 -- The source over the octets of a string, at some point in it.
 use Rattle.std.specs.Prelude.{ℕ, ◌-◌, ◌<◌, List, [], ◌++◌, length}
-use Rattle.bcder.specs.declared.string.octet.source.OctetStringSource.{OctetStringSource}
+use Rattle.bcder.specs.declared.{string.octet.source.OctetStringSource.OctetStringSource}
 use Rattle.bcder.specs.calls.Stream.{Stream}
 use Rattle.bcder.specs.calls.StringSource.{all_behind}
 

@@ -1,6 +1,22 @@
--- How a tag is shown: the name of its type in ASN.1 (X.680, 8.4), or its class and its number.
+-- The classes of tags as the program keeps them, and how a tag is shown: by its type in ASN.1 (X.680, 8.4), or class and number.
 use Rattle.std.specs.Prelude.{ℕ, List, [], ◌++◌, Option, Some, None, ◌==◌, if◌then◌else◌, unwrap_or, codes, decimal}
+use Rattle.bcder.specs.declared.{tag.Class.Class as CodeClass}
+use Rattle.bcder.specs.declared.tag.Class.TheVariants.{Universal, Application, ContextSpecific, Private}
 use Rattle.bcder.specs.x690.Identifier.{Class, universal, application, context_specific, private, Tag}
+
+abbrev pub class_meant : CodeClass → Class
+class_meant Universal = universal
+class_meant Application = application
+class_meant ContextSpecific = context_specific
+class_meant Private = private
+
+abbrev pub class_kept : Class → CodeClass
+class_kept universal = Universal
+class_kept application = Application
+class_kept context_specific = ContextSpecific
+class_kept private = Private
+
+-- ---- text
 
 -- the name of the type that a universal number denotes
 unfoldable pub universal_name : ℕ → Option (List ℕ)

@@ -1,19 +1,17 @@
--- Values of a tag, of either form, taken as what they mean.
+-- Values of a tag, taken as what they mean: of either form, or primitive ones by their contents octets.
 use Rattle.std.specs.Prelude.{◌≡◌, ◌≢◌, ◌⊎◌, true, List, ℕ, Some, Option, length, Result, IfOk, IfErr, OnOk}
-use Rattle.bcder.specs.declared.mode.Mode.{Mode}
-use Rattle.bcder.specs.declared.mode.Mode.TheVariants.{Der}
+use Rattle.bcder.specs.declared.{mode.Mode.Mode, mode.Mode.TheVariants.Der, decode.error.DecodeError.DecodeError}
 use Rattle.bcder.specs.declared.decode.content.State.TheVariants.{Open, Ended, Failed}
-use Rattle.bcder.specs.declared.decode.error.DecodeError.{DecodeError}
-use Rattle.bcder.specs.calls.Cause.{cause_of, of_source, of_memory, IsRefusal}
 use Rattle.bcder.specs.x690.Identifier.{Tag}
 use Rattle.bcder.specs.x690.Tree.{Tree, primitive, constructed, Trees, no_trees}
-use Rattle.bcder.specs.calls.Stream.{Grew}
-use Rattle.bcder.specs.calls.Content.{Reading, Octets, tagged, IsAbsent, IsDone, HasHeader}
-use Rattle.bcder.specs.calls.Refusals.{Refuses}
-use Rattle.bcder.specs.calls.Walking.{HasValue, HasValues}
-use Rattle.bcder.specs.calls.Takes.{NextBy, OneBy}
-use Rattle.bcder.specs.calls.CapturingValues.{HasValuesOrDeep}
 use Rattle.bcder.specs.x690.OctetString.{AreSegmentsIn}
+use Rattle.bcder.specs.calls.Cause.{cause_of, of_source, of_memory, IsRefusal}
+use Rattle.bcder.specs.calls.Stream.{Grew}
+use Rattle.bcder.specs.calls.Content.{Reading, Octets, tagged, IsAbsent, IsDone, HasHeader, Refuses}
+use Rattle.bcder.specs.calls.Walking.{HasValue, HasValues}
+use Rattle.bcder.specs.calls.Calls.{NextBy, OneBy, HasNone, Returns}
+use Rattle.bcder.specs.calls.Capturing.{HasValuesOrDeep}
+use Rattle.bcder.specs.calls.Readers.{MeanNothing}
 
 -- ---- the content of a value
 
@@ -119,3 +117,40 @@ module _ {T : Type 0} (tag : Tag) (Means : Tree → T → Type 0) where
 pub record ReadsAny {T X : Type 0} (Means : Mode → Tree → T → Type 0) (c : Reading) (r : Result T (DecodeError X))
     (d : Reading) : Type 0 where
   pub at_tag : (tag : Tag) → ReadsContent tag (Means c.mode) c r d
+
+-- ---- primitive values
+
+-- a primitive value means what its contents octets mean, and a constructed one nothing
+abbrev pub InPrimitive : {T : Type 0} → (List ℕ → T → Type 0) → Tree → T → Type 0
+InPrimitive Means (primitive t contents) x = Means contents x
+InPrimitive Means (constructed t ts) x = ⊥
+
+-- why no value was taken, with error e: no primitive value with the tag comes next, or its contents octets were refused
+abbrev pub RefusesAs : {X : Type 0} → Tag → (List ℕ → DecodeError X → Type 0) → Reading → DecodeError X → Reading → Type 0
+RefusesAs tag RefusesOctets c e d = Refuses cause_of (tagged tag) (HasNoTree {T = Unit {0}} tag (InPrimitive (λ _ _. Unit {0})))
+    ((contents w rest : List ℕ) × HasValue c (primitive tag contents) w rest × RefusesOctets contents e) c e d
+
+module _ {T X : Type 0} (tag : Tag) (Means : List ℕ → T → Type 0) where
+  module _ (RefusesOctets : List ℕ → DecodeError X → Type 0) where
+    -- the effect of a call that returns what the value means, or that there is none
+    abbrev pub TakesNextBy : Reading → Result (Option T) (DecodeError X) → Reading → Type 0
+    TakesNextBy = NextBy (tagged tag) (TakesTree tag (InPrimitive Means)) (RefusesAs tag RefusesOctets)
+
+    -- the effect of a call that needs the value
+    abbrev pub TakesOneBy : Reading → Result T (DecodeError X) → Reading → Type 0
+    TakesOneBy = OneBy (tagged tag) (TakesTree tag (InPrimitive Means)) (RefusesAs tag RefusesOctets)
+
+    -- the effect of a call that passes over the value, if there is one
+    abbrev pub PassesNextBy : Reading → Result T (DecodeError X) → Reading → Type 0
+    PassesNextBy c r d = Returns (λ x. TakesTree tag (InPrimitive Means) c x d ⊎ HasNone (tagged tag) c d)
+        (λ e. (d.state ≡ Failed) × RefusesAs tag RefusesOctets c e d) c r d
+
+  -- the same for contents octets that are refused exactly if they mean nothing
+  abbrev pub TakesNextAs : Reading → Result (Option T) (DecodeError X) → Reading → Type 0
+  TakesNextAs = NextBy (tagged tag) (TakesTree tag (InPrimitive Means)) (RefusesAs tag (MeanNothing Means))
+
+  abbrev pub TakesOneAs : Reading → Result T (DecodeError X) → Reading → Type 0
+  TakesOneAs = OneBy (tagged tag) (TakesTree tag (InPrimitive Means)) (RefusesAs tag (MeanNothing Means))
+
+  abbrev pub PassesNextAs : Reading → Result T (DecodeError X) → Reading → Type 0
+  PassesNextAs = PassesNextBy (MeanNothing Means)

@@ -1,15 +1,13 @@
 -- The content that a value of the code is, by the stream of its source.
 use Rattle.std.specs.Prelude.{ℕ}
 use Rattle.std.specs.Borrow.{GName, MutBor}
-use Rattle.bcder.specs.declared.decode.source.limited.LimitedSource.{LimitedSource}
-use Rattle.bcder.specs.declared.decode.content.Primitive.{Primitive}
-use Rattle.bcder.specs.declared.decode.content.Constructed.{Constructed}
-use Rattle.bcder.specs.declared.decode.content.Content.{Content}
+use denote.Triple.Both.{Both}
+use Rattle.bcder.specs.declared.{decode.source.limited.LimitedSource.LimitedSource, decode.content.Primitive.Primitive}
+use Rattle.bcder.specs.declared.{decode.content.Constructed.Constructed, decode.content.Content.Content}
 use Rattle.bcder.specs.declared.decode.content.Content.TheVariants as content
 use Rattle.bcder.specs.declared.decode.content.State.TheVariants as state
 use Rattle.bcder.specs.calls.Stream.{Stream, limited, borrowed}
 use Rattle.bcder.specs.calls.Content.{Reading, Octets, values, Moves}
-use denote.Triple.Both.{Both}
 
 module _ {S : Type 0} (stream : S → Stream) where
   abbrev pub limited_stream : LimitedSource S → Stream

@@ -1,24 +1,22 @@
 -- Exactly when a value is passed, skipped or captured: a call says what came next, by what it returns; so it returns that
 -- whenever this comes next. Each statement is the contract of a function of `src/laws/exactly.rt`.
 use Rattle.std.specs.Borrow.{MutBor}
-use Rattle.std.specs.Prelude.{◌≡◌, ◌⊎◌, ℕ, ◌<◌, true, List, ◌∷◌, ◌++◌, Option, Result, Err, IsOk, IsOkAnd, IsErrAnd}
-use Rattle.std.specs.Prelude.{IsSomeAnd, IsTrue, is_some, is_none}
+use Rattle.std.specs.Prelude.{◌≡◌, ◌⊎◌, ℕ, ◌<◌, true, List, ◌∷◌, ◌++◌, Option, Result, Err, IsOk, IsOkAnd, IsErrAnd, IsSomeAnd, IsTrue}
+use Rattle.std.specs.Prelude.{is_some, is_none}
 use denote.Triple.Both.{Both}
+use Rattle.bcder.specs.declared.{decode.content.Constructed.Constructed, decode.error.ContentError.ContentError}
+use Rattle.bcder.specs.declared.{decode.error.DecodeError.DecodeError}
 use Rattle.bcder.specs.declared.decode.content.State.TheVariants.{Open, Ended}
-use Rattle.bcder.specs.declared.decode.content.Constructed.{Constructed}
-use Rattle.bcder.specs.declared.decode.error.ContentError.{ContentError}
-use Rattle.bcder.specs.declared.decode.error.DecodeError.{DecodeError}
-use Rattle.bcder.specs.calls.Cause.{cause_of, of_memory}
 use Rattle.bcder.specs.x690.Tree.{Tree}
 use Rattle.bcder.specs.x690.Preorder.{Heading, preorder}
+use Rattle.bcder.specs.calls.Cause.{cause_of, of_memory}
 use Rattle.bcder.specs.calls.Stream.{Stream, Grew}
 use Rattle.bcder.specs.calls.Captured.{Kept}
-use Rattle.bcder.specs.calls.Content.{Reading, any, EndsBefore}
-use Rattle.bcder.specs.calls.Walking.{HasValue, HasValues, HasNoValue, HasNoNext, PassesValue}
-use Rattle.bcder.specs.calls.Skipping.{Steps, Called, SkipsValue, RefusesSkip, SkippedValueBy, SkippedOne, SkippedAll}
-use Rattle.bcder.specs.calls.CapturingValues.{CapturesBy, CapturesValue, CapturesNext, CapturesValues, HasValueOrDeep, HasOthers, HasValuesOrDeep}
-use Rattle.bcder.specs.calls.Refusals.{Refuses}
-use Rattle.bcder.specs.calls.Takes.{NextBy}
+use Rattle.bcder.specs.calls.Content.{Reading, any, EndsBefore, Refuses}
+use Rattle.bcder.specs.calls.Walking.{HasValue, HasValues, HasNoValue, HasNoNext, PassesValue, Steps, Called, SkipsValue, RefusesSkip}
+use Rattle.bcder.specs.calls.Walking.{SkippedValueBy, AllBy, RefusesOne, RefusesSkipAll}
+use Rattle.bcder.specs.calls.Capturing.{CapturesBy, CapturesValue, CapturesNext, CapturesValues, HasValueOrDeep, HasOthers, HasValuesOrDeep}
+use Rattle.bcder.specs.calls.Calls.{NextBy}
 use Rattle.bcder.specs.calls.Views.{before, after}
 
 -- ---- what is returned, unless the source failed
@@ -78,12 +76,13 @@ module _ {S : Type 0} (stream : S → Stream) where
 
   -- so does a call without a closure, if memory was found
   abbrev pub PassesOneExactly : Type 0 → Type 0
-  PassesOneExactly X = Follows {T = Option (Unit {0})} {X = X} (λ c r. SkippedOne stream c r)
+  PassesOneExactly X = Follows {T = Option (Unit {0})} {X = X} (λ c r. NextBy any (λ i _ j. PassesValue i j)
+      (RefusesOne cause_of) (before stream c) r (after stream c))
       (λ c r. FoundMemory r → AnswersNext (before stream c) r (after stream c))
 
   -- all values are passed if encodings go on up to the end
   abbrev pub PassesAllExactly : Type 0 → Type 0
-  PassesAllExactly X = Follows {T = Unit {0}} {X = X} (λ c r. SkippedAll stream c r)
+  PassesAllExactly X = Follows {T = Unit {0}} {X = X} (λ c r. AllBy (RefusesSkipAll cause_of) (before stream c) r (after stream c))
       (λ c r. FoundMemory r → (before stream c).state ≡ Open → HasValues (before stream c) → IsOk r)
 
   -- a value is captured if one comes next, whether or not it has to

@@ -5,7 +5,7 @@ use Rattle.bcder.specs.declared.encode.error.EncodeError.{EncodeError}
 use Rattle.bcder.specs.declared.mode.Mode.{Mode}
 use Rattle.bcder.specs.x690.Encoding.{AreEncodings}
 use Rattle.bcder.specs.calls.Meaning.{Encoded, Meaning, IsOne, IsLawful}
-use Rattle.bcder.specs.calls.Joined.{nothing, join, Then, NoValues, EachOf, Joined}
+use Rattle.bcder.specs.calls.Meaning.{nothing, join, Then, NoValues, EachOf, Joined}
 use Rattle.bcder.specs.laws.Lists.{AreEncodings-join}
 
 NoValues_encodes : (mode : Mode) (e : Encoded) → NoValues (Ok e) → AreEncodings mode e.values e.octets

@@ -1,23 +1,81 @@
 -- What the steps over the content of a value return and leave.
-use Rattle.std.specs.Prelude.{◌≡◌, ℕ, Bool, Option, Some, Result, Ok, Err}
+use Rattle.std.specs.Prelude.{◌≡◌, ℕ, Bool, Option, Some, Result, Ok, Err, ◌≢◌, ◌||◌, ◌+◌, ◌-◌, false, List, ◌++◌, None, IfOk, IfErr, OnOk}
 use Rattle.std.specs.Borrow.{MutBor}
-use Rattle.bcder.specs.declared.length.Length.{Length}
+use Rattle.bcder.specs.declared.{length.Length.Length, decode.content.Constructed.Constructed, decode.content.Kind.Kind}
+use Rattle.bcder.specs.declared.{decode.error.DecodeError.DecodeError, decode.header.Header.Header as CodeHeader}
+use Rattle.bcder.specs.declared.{decode.error.ContentError.ContentError, mode.Mode.Mode}
 use Rattle.bcder.specs.declared.length.Length.TheVariants.{Definite, Indefinite}
-use Rattle.bcder.specs.declared.decode.content.Constructed.{Constructed}
-use Rattle.bcder.specs.declared.decode.content.Kind.{Kind}
 use Rattle.bcder.specs.declared.decode.content.Kind.TheVariants as kind
-use Rattle.bcder.specs.declared.decode.content.State.TheVariants.{Open}
-use Rattle.bcder.specs.declared.decode.error.DecodeError.{DecodeError}
-use Rattle.bcder.specs.declared.decode.header.Header.{Header as CodeHeader}
-use Rattle.bcder.specs.declared.decode.error.ContentError.{ContentError}
-use Rattle.bcder.specs.calls.Cause.{Cause, cause_of, IsRefusal}
+use Rattle.bcder.specs.declared.decode.content.State.TheVariants.{Open, Failed}
 use Rattle.bcder.specs.x690.Identifier.{Tag}
-use Rattle.bcder.specs.x690.Encoding.{Header}
-use Rattle.bcder.specs.steps.Peek.{is_constructed, len_of}
+use Rattle.bcder.specs.x690.Encoding.{Header, IsHeader, IsEncoding}
+use Rattle.bcder.specs.x690.Tree.{Tree}
+use Rattle.bcder.specs.calls.Cause.{Cause, cause_of, IsRefusal}
 use Rattle.bcder.specs.calls.Stream.{Stream}
-use Rattle.bcder.specs.calls.Content.{Reading}
-use Rattle.bcder.specs.calls.Calls.{Hands, RanOver, TakesContent, popped}
+use Rattle.bcder.specs.calls.Content.{Reading, ContentForm, label, Moves, values}
+use Rattle.bcder.specs.calls.Calls.{Hands, Answered, AnswersDone, RefusesContent}
 use Rattle.bcder.specs.calls.Views.{of_constructed}
+use Rattle.bcder.specs.calls.Decoding.{RefusesOn}
+use Rattle.bcder.specs.steps.Peek.{is_constructed, len_of}
+use Rattle.bcder.specs.steps.Entering.{Advances}
+
+-- a closure got content over the source s, and left content over s'
+pub record RunsOver (s : Stream) (o : Option ℕ) (k : ContentForm) (m : Mode) (handed left : Reading) (s' : Stream)
+    (o' : Option ℕ) : Type 0 where
+  pub stream : handed.stream ≡ s
+  pub owed : handed.owed ≡ o
+  pub kind : handed.kind ≡ k
+  pub state : handed.state ≡ Open
+  pub mode : handed.mode ≡ m
+  pub marked : handed.marked ≡ false
+  pub left_stream : left.stream ≡ s'
+  pub left_owed : left.owed ≡ o'
+  pub moves : Moves handed left
+
+module _ {C T E : Type 0} (why : E → Cause ContentError) (view : C → Reading) (post : Tag → MutBor C → Result T E → MutBor C → Type 0) where
+  -- a closure ran on content over a source
+  pub record RanOver (s : Stream) (o : Option ℕ) (k : ContentForm) (m : Mode) (t : Tag) (r : Result T E) (mark : Bool) (s' : Stream)
+      (o' : Option ℕ) : Type 0 where
+    pub handed : Reading
+    pub left : Reading
+    pub runs : RunsOver s o k m handed left s' o'
+    pub marks : left.marked ≡ mark
+    pub answers : IfOk r (λ x. AnswersDone {R = Result T E} view post t handed (Ok x) left)
+    pub refuses : IfErr r (λ e. RefusesContent why view post t handed e left)
+
+  -- the content behind the header h was taken
+  pub record TakesContent (c : Reading) (h : Header) (r : Result T E) (d : Reading) : Type 0 where
+    pub passed : List ℕ
+    pub advances : Advances c d passed
+    pub state : d.state ≡ c.state
+    pub handed : Reading
+    pub left : Reading
+    pub marked : d.marked ≡ (c.marked || left.marked)
+    pub encodes : OnOk r ((octets : List ℕ) → IsHeader c.mode h.tag h.form h.len octets
+        → (tree : Tree) × IsEncoding (label c.mode left.marked) tree (octets ++ passed))
+    pub hands : Hands c.mode h.form h.len c.owed c.stream.rest handed
+    pub moves : Moves handed left
+    pub follows : h.len ≡ Indefinite → d.stream.rest ≡ left.stream.rest
+    pub faults_handed : handed.stream.faults ≡ c.stream.faults
+    pub faults_left : left.stream.faults ≡ d.stream.faults
+    pub answers : IfOk r (λ x. AnswersDone {R = Result T E} view post h.tag handed (Ok x) left)
+    pub refuses : IfErr r (λ e. RefusesContent why view post h.tag handed e left)
+
+-- what is still owed around a value of n octets, some of which are left
+abbrev pub popped : Option ℕ → ℕ → Option ℕ → Option ℕ
+popped (Some outer) n (Some left) = Some (outer - (n - left))
+popped (Some outer) n None = None
+popped None n o = None
+
+-- a closure ran on values up to the end of a source
+pub record RanOn {C T E : Type 0} (why : E → Cause ContentError) (view : C → Reading) (post : MutBor C → Result T E → MutBor C → Type 0)
+    (s : Stream) (o : Option ℕ) (m : Mode) (r : Result T E) (s' : Stream) (o' : Option ℕ) : Type 0 where
+  pub handed : Reading
+  pub left : Reading
+  pub runs : RunsOver s o (values kind.Unbounded) m handed left s' o'
+  pub usable : OnOk r (left.state ≢ Failed)
+  pub answers : IfOk r (λ x. Answered {R = Result T E} view post handed (Ok x) left)
+  pub refuses : IfErr r (λ e. RefusesOn why view post handed e left)
 
 -- how the end of the values after a length is known
 abbrev pub kind_behind : Length → Kind

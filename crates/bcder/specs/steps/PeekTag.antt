@@ -5,7 +5,7 @@ use Rattle.bcder.specs.declared.tag.take.PeekedTag.TheVariants as peeked
 use Rattle.bcder.specs.declared.mode.Mode.TheVariants.{Ber}
 use Rattle.bcder.specs.x690.Identifier.{IsTag, identifier}
 use Rattle.bcder.specs.x690.Broken.{EndsInHeader}
-use Rattle.bcder.specs.calls.Begins.{BeginsNoIdentifier}
+use Rattle.bcder.specs.calls.Violations.{BeginsNoIdentifier}
 use Rattle.bcder.specs.calls.Violations.{ViolatesFront}
 use Rattle.bcder.specs.calls.Stream.{Stream}
 

@@ -4,7 +4,7 @@ use Rattle.std.specs.Borrow.{Bor}
 use Rattle.bcder.specs.x690.ObjectIdentifier.{subidentifier_number, IsSubidentifier, AreSubidentifiers}
 use Rattle.bcder.specs.declared.oid.text.OidError.{OidError}
 use Rattle.bcder.specs.declared.oid.text.OidError.TheVariants.{NotInteger, NoMemory}
-use Rattle.bcder.specs.calls.IdentifierText.{between_dots, AreComponentTexts, HasNoComponent}
+use Rattle.bcder.specs.calls.Identifiers.{between_dots, AreComponentTexts, HasNoComponent}
 
 -- the texts between the dots of a text, if there is one
 abbrev pub texts_of : Option (Bor (List ℕ)) → List (List ℕ)

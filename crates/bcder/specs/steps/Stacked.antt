@@ -27,10 +27,10 @@ use Rattle.bcder.specs.x690.Encoding.{Header}
 use Rattle.bcder.specs.steps.Reading.{read_contents, read_list}
 use Rattle.bcder.specs.calls.Stream.{Stream, Grew, cut, past, limit_left}
 use Rattle.bcder.specs.calls.Content.{Falls}
-use Rattle.bcder.specs.calls.Calls.{popped}
+use Rattle.bcder.specs.steps.Inside.{popped}
 use Rattle.bcder.specs.steps.Inside.{limit_inside}
 use Rattle.bcder.specs.steps.Growing.{AreOpen}
-use Rattle.bcder.specs.calls.Skipping.{Steps, Called, HeadersStand}
+use Rattle.bcder.specs.calls.Walking.{Steps, Called, HeadersStand}
 
 -- how an open value ends: when nothing is owed any more, with what is owed after it, if there is a limit;
 -- or by end-of-contents octets

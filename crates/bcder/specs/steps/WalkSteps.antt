@@ -1,25 +1,27 @@
 -- What private steps of walking over values return and leave.
 use Rattle.std.specs.Borrow.{MutBor}
-use Rattle.std.specs.Prelude.{◌≡◌, ℕ, ◌≤◌, Bool, false, List, ◌++◌, length, take, Option, Result, IfOk, IfErr, OnOk, OnErr, IsTrue}
+use Rattle.std.specs.Prelude.{◌≡◌, ℕ, ◌≤◌, Bool, false, List, ◌++◌, length, take, Option, Result, IfOk, IfErr, OnOk, OnErr, IsTrue, ◌+◌}
 use denote.Triple.Both.{Both}
-use Rattle.bcder.specs.declared.decode.content.State.TheVariants.{Failed}
+use Rattle.bcder.specs.declared.{decode.content.State.TheVariants.Failed, decode.error.ContentError.ContentError, decode.stop.Stop.Stop}
+use Rattle.bcder.specs.declared.{decode.header.Header.Header as CodeHeader, decode.content.Constructed.Constructed}
 use Rattle.bcder.specs.x690.Identifier.{Tag, AreOctets}
 use Rattle.bcder.specs.x690.Tree.{Tree}
 use Rattle.bcder.specs.x690.Encoding.{IsEncoding}
 use Rattle.bcder.specs.calls.Stream.{Stream, Grew}
-use Rattle.bcder.specs.declared.decode.error.ContentError.{ContentError}
 use Rattle.bcder.specs.calls.Cause.{Cause, of_source}
-use Rattle.bcder.specs.steps.StopCause.{stop_cause}
-use Rattle.bcder.specs.declared.decode.stop.Stop.{Stop}
-use Rattle.bcder.specs.declared.decode.header.Header.{Header as CodeHeader}
-use Rattle.bcder.specs.declared.decode.content.Constructed.{Constructed}
 use Rattle.bcder.specs.calls.Views.{of_constructed}
-use Rattle.bcder.specs.calls.Calls.{TakesContent}
+use Rattle.bcder.specs.calls.Content.{Refuses, Reading, any, Moves, IsDone, Resembles}
+use Rattle.bcder.specs.calls.Walking.{HasNoNext, PassesValue, RefusesValues}
+use Rattle.bcder.specs.calls.Calls.{NextBy}
+use Rattle.bcder.specs.steps.StopCause.{stop_cause}
+use Rattle.bcder.specs.steps.Inside.{TakesContent}
 use Rattle.bcder.specs.steps.Peek.{header_of}
-use Rattle.bcder.specs.calls.Refusals.{Refuses}
-use Rattle.bcder.specs.calls.Content.{Reading, any, Moves, IsDone, Advances, Resembles}
-use Rattle.bcder.specs.calls.Walking.{HasNoNext, PassesValue, RefusesValues, Between}
-use Rattle.bcder.specs.calls.Takes.{NextBy}
+use Rattle.bcder.specs.steps.Entering.{Advances}
+
+-- a parameter of constructed content at entry and at exit
+module _ {S : Type 0} (stream : S → Stream) (c : Both (MutBor (Constructed S)) (MutBor (Constructed S))) where
+  abbrev pub Between : (Reading → Reading → Type 0) → Type 0
+  Between R = R (of_constructed stream c.entry.now) (of_constructed stream c.exit.now)
 
 -- the first n octets were passed, and nothing else changed
 pub record PassesOver (c : Reading) (n : ℕ) (d : Reading) : Type 0 where

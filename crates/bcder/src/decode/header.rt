@@ -1,8 +1,8 @@
 //! Reading identifier octets and length octets (X.690, 8.1.2, 8.1.3) from octets and from a source.
 ghost use Rattle.std.specs.Prelude.{◌≡◌, ℕ, ◌+◌, ◌%◌, ◌<◌, ◌≤◌, List, ◌++◌, length, false, true};
 ghost use Rattle.std.specs.Prelude.{IsTrue, Some, None, IfSome, MatchOption, IfOk, OnOk, OnErr};
-ghost use Rattle.bcder.specs.calls.Changed.{SameFaults, MoreFaults, SameRest, SamePosition};
-ghost use Rattle.bcder.specs.calls.Changed.{SameKept};
+ghost use Rattle.bcder.specs.calls.Sources.{SameFaults, MoreFaults, SameRest, SamePosition};
+ghost use Rattle.bcder.specs.calls.Sources.{SameKept};
 ghost use Rattle.bcder.specs.calls.Content.{IsAsked};
 ghost use Rattle.bcder.specs.calls.Violations.{ViolatesFront};
 ghost use Rattle.bcder.specs.declared.mode.Mode.{Mode as ModeValue};

@@ -1,6 +1,6 @@
 //! The rules of headers that octets can violate (X.690, 8.1.2, 8.1.3, 8.1.5, 9.1, 10.1).
 ghost use Rattle.std.specs.Prelude.{◌≡◌, ◌⊎◌, ◌≤◌, length, Some, IsSome, IsNone, IfSome};
-ghost use Rattle.bcder.specs.calls.Fronts.{BeginsHeader, BeginsEnd};
+ghost use Rattle.bcder.specs.calls.Violations.{BeginsHeader, BeginsEnd};
 ghost use Rattle.bcder.specs.calls.Violations.{violation_text, ViolatesFront};
 
 use crate::decode::header::{Peeked, Wanted, look};

@@ -1,7 +1,7 @@
 //! The loop that writes octets to a target.
 ghost use Rattle.std.specs.Prelude.{OnOk, OnErr};
 ghost use Rattle.bcder.specs.calls.Encoders.{WroteOctets, into_result};
-ghost use Rattle.bcder.specs.calls.Target.{Appended, AppendedShorter};
+ghost use Rattle.bcder.specs.calls.Encoders.{Appended, AppendedShorter};
 
 use crate::encode::WriteError;
 use crate::encode::slot::{Failed, store_target_error};

@@ -6,9 +6,10 @@ ghost use Rattle.bcder.specs.x690.Integer.{AreInteger, IsSmallest, Leads, intege
 ghost use Rattle.bcder.specs.x690.Length.{big_endian};
 ghost use Rattle.bcder.specs.x690.Number.{ConvertsTo};
 ghost use Rattle.bcder.specs.calls.Readers.{ReadBy, ReadOctets, IsUnsigned, NoUnsigned};
-ghost use Rattle.bcder.specs.calls.Typed.{TookOneBy};
-ghost use Rattle.bcder.specs.calls.Unsigned.{BeginsWithZeros, MatchIntegerError};
-ghost use Rattle.bcder.specs.calls.Views.{Moved, MovedOctets};
+ghost use Rattle.bcder.specs.calls.Valued.{TakesOneBy};
+ghost use Rattle.bcder.specs.steps.Zeros.{BeginsWithZeros};
+ghost use Rattle.bcder.specs.calls.Cause.{MatchIntegerError};
+ghost use Rattle.bcder.specs.calls.Views.{Moved, MovedOctets, of_constructed};
 
 use super::{Integer, IntegerError, InvalidInteger, OverflowError};
 use crate::decode::{Constructed, DecodeError, Primitive, Source};
@@ -173,8 +174,8 @@ impl Unsigned {
         cons: &mut Constructed<'_, S>,
     ) -> Result<Unsigned, DecodeError<S::Error>>
         ensures moves { Moved S.stream cons }
-        ensures took { TookOneBy S.stream cons integer_tag
-            (λ w n. AreInteger (pos n) w) NoUnsigned result }
+        ensures took { TakesOneBy integer_tag (λ w n. AreInteger (pos n) w) NoUnsigned
+            (of_constructed S.stream cons.old) result (of_constructed S.stream cons.new) }
     {
         cons.take_primitive_if(
             Tag::INTEGER,

@@ -1,7 +1,7 @@
 //! Laws of octet strings (X.690, 8.7, 9.2, 10.2).
-ghost use Rattle.bcder.specs.calls.OctetStrings.{PrimitiveInDer, PrimitiveInCer};
-ghost use Rattle.bcder.specs.calls.OctetStrings.{OneString, OneStringEncoding};
-ghost use Rattle.bcder.specs.calls.OctetStrings.{PartsJoin, MeansFlat, MeansSegments};
+ghost use Rattle.bcder.specs.calls.Written.{PrimitiveInDer, PrimitiveInCer};
+ghost use Rattle.bcder.specs.calls.Written.{OneString, OneStringEncoding};
+ghost use Rattle.bcder.specs.calls.Written.{PartsJoin, MeansFlat, MeansSegments};
 
 /// In DER an octet string is primitive (10.2). In CER it is primitive if it has at most 1000
 /// octets, and constructed if it has more (9.2).

@@ -7,7 +7,7 @@ ghost use Rattle.bcder.specs.x690.BitString.{as_written, IsBitString};
 ghost use Rattle.bcder.specs.x690.Integer.{AreInteger};
 ghost use Rattle.bcder.specs.calls.Meaning.{fits_primitive};
 ghost use Rattle.bcder.specs.x690.ObjectIdentifier.{IsComplete};
-ghost use Rattle.bcder.specs.calls.ReadBack.{IsReadBack, AreReadBack};
+ghost use Rattle.bcder.specs.calls.Written.{IsReadBack, AreReadBack};
 ghost use Rattle.bcder.specs.calls.Readers.{IsSigned, IsUnsigned, IsTruth, IsNull};
 
 use crate::encode::PrimitiveContent;

@@ -2,10 +2,10 @@
 //! 8.23, 9.2, 10.2).
 ghost use Rattle.bcder.specs.calls.Meaning.{Encoded};
 ghost use Rattle.bcder.specs.calls.StringOctets.{octets_of};
-ghost use Rattle.bcder.specs.calls.WrittenStrings.{WritesString, WritesShort, IsWrittenString};
-ghost use Rattle.bcder.specs.calls.WrittenStrings.{contents_count};
-ghost use Rattle.bcder.specs.calls.WrittenRestricted.{IsTakenRestricted, WrittenAsReadOf};
-ghost use Rattle.bcder.specs.calls.WrittenRestricted.{OneRestricted};
+ghost use Rattle.bcder.specs.calls.Written.{WritesString, WritesShort, IsWrittenString};
+ghost use Rattle.bcder.specs.calls.Written.{contents_count};
+ghost use Rattle.bcder.specs.calls.Written.{IsTakenRestricted, WrittenAsReadOf};
+ghost use Rattle.bcder.specs.calls.Written.{OneRestricted};
 
 use crate::encode::Values;
 use crate::mode::Mode;

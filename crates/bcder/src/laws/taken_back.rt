@@ -2,19 +2,19 @@
 //! that an encoder means in its mode, the typed takes return this value, and leave what follows.
 ghost use Rattle.std.specs.Prelude.{◌≡◌, ⊤, true, pos, length, ◌+◌, ◌<◌, ◌^◌, FitsSigned};
 ghost use Rattle.std.specs.Int.{w8, w16, w32, w64, w128, FitsUnsignedBits};
+ghost use Rattle.bcder.specs.calls.Readers.{AreNot, NoBits};
 ghost use Rattle.bcder.specs.x690.Identifier.{boolean_tag, integer_tag, null_tag};
 ghost use Rattle.bcder.specs.x690.BitString.{as_written, bit_string_tag, IsBits, IsBitString};
 ghost use Rattle.bcder.specs.x690.Integer.{AreInteger, integer_octets};
 ghost use Rattle.bcder.specs.calls.Meaning.{fits_primitive};
-ghost use Rattle.bcder.specs.calls.ReadBits.{HoldBits, NoBits};
+ghost use Rattle.bcder.specs.calls.Readers.{HoldBits};
 ghost use Rattle.bcder.specs.calls.Readers.{IsSigned, IsUnsigned, IsTruth, IsNull, IsThis};
 ghost use Rattle.bcder.specs.calls.Readers.{MeanAnother, NoInteger};
 ghost use Rattle.bcder.specs.x690.ObjectIdentifier.{IsComplete, identifier_tag};
-ghost use Rattle.bcder.specs.calls.ReadIdentifiers.{NoIdentifier};
 ghost use Rattle.bcder.specs.calls.Readers.{NoUnsigned};
-ghost use Rattle.bcder.specs.calls.TakenBack.{AreTakenBack, IsTakenBack, IsTakenBackBy};
-ghost use Rattle.bcder.specs.calls.TakenBack.{SourceFailed};
-ghost use Rattle.bcder.specs.calls.TakenBack.{SourceFailedOrNoMemory};
+ghost use Rattle.bcder.specs.calls.Written.{AreTakenBack, IsTakenBack, IsTakenBackBy};
+ghost use Rattle.bcder.specs.calls.Written.{SourceFailed};
+ghost use Rattle.bcder.specs.calls.Written.{SourceFailedOrNoMemory};
 
 use crate::encode::{Primitive, Values};
 use crate::int::{Integer, Unsigned};
@@ -112,7 +112,7 @@ pub fn an_identifier_is_taken_back<E>(x: &Oid<Bytes>, mode: Mode)
     requires complete { IsComplete x.now.0 }
     requires short { length x.now.0 < 2 ^ 32 }
     ensures { IsTakenBackBy {X = E} SourceFailedOrNoMemory identifier_tag
-        (λ w oid. (oid.0 ≡ w) × IsComplete w) NoIdentifier mode
+        (λ w oid. (oid.0 ≡ w) × IsComplete w) (AreNot IsComplete) mode
         (⟦<Primitive<Oid<Bytes>> as Values>⟧.means
         (record { tag = identifier_tag; prim = x.now }) mode) x.now }
 {

@@ -7,10 +7,10 @@ ghost use Rattle.bcder.specs.calls.Meaning.{Encoded};
 ghost use Rattle.bcder.specs.calls.StringOctets.{StringOctets, octets_of};
 ghost use Rattle.bcder.specs.x690.OctetString.{octet_string_tag};
 ghost use Rattle.bcder.specs.calls.Encoders.{HasEncoding};
-ghost use Rattle.bcder.specs.calls.WrittenStrings.{WritesString, WritesShort, WritesAlike};
-ghost use Rattle.bcder.specs.calls.WrittenStrings.{contents_count};
-ghost use Rattle.bcder.specs.calls.WrittenStrings.{WrittenAsRead};
-ghost use Rattle.bcder.specs.calls.WrittenStrings.{IsWrittenString, IsTakenString};
+ghost use Rattle.bcder.specs.calls.Written.{WritesString, WritesShort, WritesAlike};
+ghost use Rattle.bcder.specs.calls.Written.{contents_count};
+ghost use Rattle.bcder.specs.calls.Written.{WrittenAsRead};
+ghost use Rattle.bcder.specs.calls.Written.{IsWrittenString, IsTakenString};
 
 use crate::encode::Values;
 use crate::mode::Mode;

@@ -1,10 +1,10 @@
 //! The components of an object identifier (X.690, 8.19.2 to 8.19.4).
 ghost use Rattle.std.specs.Prelude.{◌≡◌, ℕ, ◌^◌, [], ◌∷◌, Some, MatchOption, min, ◌↔◌, IsTrue};
 ghost use Rattle.bcder.specs.x690.ObjectIdentifier.{subidentifier_number, subidentifiers};
-ghost use Rattle.bcder.specs.calls.Components.{component_parts, part_value};
+ghost use Rattle.bcder.specs.calls.Identifiers.{component_parts, part_value};
 ghost use Rattle.bcder.specs.x690.ObjectIdentifier.{IsComplete, IsMinimal};
-ghost use Rattle.bcder.specs.calls.Components.{part_of, parts_left, in_32_bits};
-ghost use Rattle.bcder.specs.calls.IdentifierText.{shown};
+ghost use Rattle.bcder.specs.calls.Identifiers.{part_of, parts_left, in_32_bits};
+ghost use Rattle.bcder.specs.calls.Identifiers.{shown};
 
 use std::fmt;
 
@@ -133,7 +133,7 @@ impl<'a> Iter<'a> {
 
 impl<'a> Iterator for Iter<'a> {
     ghost use Rattle.std.specs.Iterator.{YieldsFirstBy, item_count};
-    ghost use Rattle.bcder.specs.calls.Components.{part_of, parts_left};
+    ghost use Rattle.bcder.specs.calls.Identifiers.{part_of, parts_left};
 
     type Item = Component<'a>;
 

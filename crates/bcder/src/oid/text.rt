@@ -2,8 +2,8 @@
 ghost use Rattle.std.specs.Prelude.{◌≡◌, ◌<◌, ℕ, List, ◌∷◌, ◌++◌, Some};
 ghost use Rattle.std.specs.Prelude.{MatchOption, IfOk, IfErr, OnOk};
 ghost use Rattle.bcder.specs.declared.oid.text.OidError.TheVariants.{NoMemory as Want};
-ghost use Rattle.bcder.specs.calls.IdentifierText.{between_dots, IsComponentText, IsNoComponent};
-ghost use Rattle.bcder.specs.calls.IdentifierText.{IsTextOf, RefusesText, error_text};
+ghost use Rattle.bcder.specs.calls.Identifiers.{between_dots, IsComponentText, IsNoComponent};
+ghost use Rattle.bcder.specs.calls.Identifiers.{IsTextOf, RefusesText, error_text};
 ghost use Rattle.bcder.specs.steps.Pushed.{texts_of, AppendsDigits, AppendsSubidentifier};
 ghost use Rattle.bcder.specs.steps.Pushed.{AppendsTexts};
 ghost use Rattle.bcder.specs.steps.Pushed.{RefusesOthers};

@@ -4,13 +4,15 @@ ghost use Rattle.std.specs.Prelude.{slice_index, nat_eq, IfOk, IsSomeAnd};
 ghost use Rattle.std.specs.Cmp.Lexicographic.{pointwise};
 ghost use Rattle.std.specs.Cmp.Rules.{comparing};
 ghost use Rattle.std.proofs.Common.{rules};
+ghost use Rattle.bcder.specs.calls.Readers.{NoBits};
 ghost use Rattle.bcder.specs.x690.BitString.{bits, bit_string_tag, IsBits, IsBitString};
 ghost use Rattle.bcder.specs.calls.BitOctets.{octets_left};
 ghost use Rattle.bcder.specs.x690.Identifier.{AreOctets};
-ghost use Rattle.bcder.specs.calls.ReadBits.{HoldBits, NoBits};
+ghost use Rattle.bcder.specs.calls.Readers.{HoldBits};
 ghost use Rattle.bcder.specs.calls.Readers.{MeanNothing, ReadContentBy, ReadContent, RefusedValues};
-ghost use Rattle.bcder.specs.calls.Typed.{TookOneAs, TookOneBy};
-ghost use Rattle.bcder.specs.calls.Views.{before, content_before, Moved, MovedContent};
+ghost use Rattle.bcder.specs.calls.Valued.{TakesOneAs, TakesOneBy};
+ghost use Rattle.bcder.specs.calls.Views.{Moved, MovedContent, before, content_before};
+ghost use Rattle.bcder.specs.calls.Views.{of_constructed};
 
 pub(crate) mod contents;
 mod encode;
@@ -168,9 +170,9 @@ impl BitString {
         constructed: &mut Constructed<'_, S>,
     ) -> Result<Self, DecodeError<S::Error>>
         ensures moves { Moved S.stream constructed }
-        ensures took { TookOneBy S.stream constructed bit_string_tag
-            (IsBitString (before S.stream constructed).mode)
-            (NoBits (before S.stream constructed).mode) result }
+        ensures took { TakesOneBy bit_string_tag (IsBitString (before S.stream constructed).mode)
+            (NoBits (before S.stream constructed).mode) (of_constructed S.stream constructed.old)
+            result (of_constructed S.stream constructed.new) }
     {
         constructed.take_primitive_if(Tag::BIT_STRING, |octets| octets.take_bits(alloc))
     }
@@ -191,8 +193,8 @@ impl BitString {
     /// - the source fails.
     pub fn skip_in<S: Source>(cons: &mut Constructed<'_, S>) -> Result<(), DecodeError<S::Error>>
         ensures moves { Moved S.stream cons }
-        ensures took { TookOneAs S.stream cons bit_string_tag
-            (HoldBits (before S.stream cons).mode) result }
+        ensures took { TakesOneAs bit_string_tag (HoldBits (before S.stream cons).mode)
+            (of_constructed S.stream cons.old) result (of_constructed S.stream cons.new) }
     {
         cons.take_primitive_if(Tag::BIT_STRING, |octets| octets.skip_bits())
     }

@@ -3,11 +3,11 @@
 
 ghost use Rattle.std.specs.Prelude.{◌≡◌, ◌<◌, ◌+◌, ◌++◌, Bool, length, OnOk, OnErr};
 ghost use Rattle.std.specs.Prelude.{IfSome, IfNone, [], ◌∷◌};
-ghost use Rattle.bcder.specs.calls.Classes.{class_meant};
+ghost use Rattle.bcder.specs.calls.TagText.{class_meant};
 ghost use Rattle.bcder.specs.steps.Buffer.{buffered};
 ghost use Rattle.bcder.specs.x690.Identifier.{class_bits, form_bit, identifier};
 ghost use Rattle.bcder.specs.x690.Identifier.{IsValueTag, end_of_contents};
-ghost use Rattle.bcder.specs.calls.Target.{Appended, AppendedShorter};
+ghost use Rattle.bcder.specs.calls.Encoders.{Appended, AppendedShorter};
 
 use super::{Class, Tag};
 use crate::encode::buffer::Buffer;

@@ -1,6 +1,6 @@
 use Rattle.std.proofs.Common.{◌++◌, ◌∙◌}
 use Rattle.std.specs.Prelude.{codes}
-use Rattle.bcder.specs.calls.IdentifierText.{error_text}
+use Rattle.bcder.specs.calls.Identifiers.{error_text}
 use Rattle.mkoid.proofs.Writing.{on_err, whenever_err, shorter_more, shorter_behind}
 use Rattle.mkoid.proofs.write_refusal.Goals as goal
 

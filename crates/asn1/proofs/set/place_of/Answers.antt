@@ -1,6 +1,6 @@
 use Rattle.std.proofs.Common.{◌∙◌, sym, subst}
 use Rattle.bcder.specs.x690.Encoding.{IsHeader}
-use Rattle.bcder.specs.calls.ContentsLen.{length_of}
+use Rattle.bcder.specs.calls.Content.{length_of}
 use Rattle.asn1.proofs.SetTaken.{place_found, has_header}
 use Rattle.asn1.proofs.set.place_of.Goals as goal
 

@@ -4,7 +4,7 @@ use Rattle.std.specs.declared.vec.Vec.{Vec}
 use Rattle.std.specs.declared.alloc.Global.{Global}
 use Rattle.bcder.specs.declared.mode.Mode.TheVariants.{Ber}
 use Rattle.bcder.specs.calls.Views.{of_constructed}
-use Rattle.bcder.specs.calls.CapturingValues.{CapturesNext}
+use Rattle.bcder.specs.calls.Capturing.{CapturesNext}
 use Rattle.bcder.specs.laws.Moved.{untouched_is_moved, moved_carries, moved_twice_is_moved}
 use Rattle.bcder.proofs.Lemmas.{constructed_is_within_owed, constructed_is_not_octets}
 use Rattle.asn1.specs.Decoded.{IsValueOf}

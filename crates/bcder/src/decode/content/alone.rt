@@ -1,6 +1,6 @@
 //! Reading octets as the contents octets of a primitive value.
 ghost use Rattle.std.specs.Prelude.{◌≡◌, ◌≢◌, false, IsTrue, Some, length};
-ghost use Rattle.bcder.specs.calls.Alone.{IsAllOctets, RanAlone};
+ghost use Rattle.bcder.specs.calls.Decoding.{IsAllOctets, RanAlone};
 ghost use Rattle.bcder.specs.declared.decode.content.State.TheVariants.{Open};
 ghost use Rattle.bcder.specs.calls.Calls.{IsLawfulOn, IsOver, MayBeCalledOn};
 ghost use Rattle.bcder.specs.calls.Content.{Octets};

@@ -3,8 +3,8 @@ ghost use Rattle.std.specs.Prelude.{◌≡◌, ◌≤◌, ◌++◌, ◌↔◌, l
 ghost use Rattle.std.specs.Prelude.{OnOk, OnErr};
 ghost use Rattle.bcder.specs.calls.Calls.{IsOver, MayBeCalledOn, IsLawfulOn};
 ghost use Rattle.bcder.specs.calls.Capturing.{of_captured, IsCaptureOf, Captures, RefusesCapture};
-ghost use Rattle.bcder.specs.calls.Capturing.{RanFrom, CapturesOver};
-ghost use Rattle.bcder.specs.calls.Capturing.{CallableOver, LawfulOver};
+ghost use Rattle.bcder.specs.steps.CaptureSteps.{RanFrom, CapturesOver};
+ghost use Rattle.bcder.specs.steps.CaptureSteps.{CallableOver, LawfulOver};
 ghost use Rattle.bcder.specs.calls.Cause.{cause_of, MatchCause};
 ghost use Rattle.bcder.specs.calls.Content.{label, values};
 ghost use Rattle.bcder.specs.calls.Sources.{behind, passed, borrow_of, capturing};

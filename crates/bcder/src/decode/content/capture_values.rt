@@ -1,8 +1,10 @@
 //! Capturing the next value, or all values.
-ghost use Rattle.bcder.specs.calls.CapturingValues.{CapturesBy, CapturesValue, CapturesNext};
-ghost use Rattle.bcder.specs.calls.CapturingValues.{CapturesValues, HasValueOrDeep, HasOthers};
-ghost use Rattle.bcder.specs.calls.CapturingValues.{HasValuesOrDeep, PassesBy, PassesToEnd};
-ghost use Rattle.bcder.specs.calls.CapturingValues.{BeginsDeep, MetDeep};
+ghost use Rattle.bcder.specs.calls.Capturing.{CapturesBy, CapturesValue, CapturesNext};
+ghost use Rattle.bcder.specs.calls.Capturing.{CapturesValues, HasValueOrDeep, HasOthers};
+ghost use Rattle.bcder.specs.calls.Capturing.{HasValuesOrDeep};
+ghost use Rattle.bcder.specs.steps.CaptureSteps.{PassesBy, PassesToEnd};
+ghost use Rattle.bcder.specs.steps.CaptureSteps.{MetDeep};
+ghost use Rattle.bcder.specs.calls.Capturing.{BeginsDeep};
 ghost use Rattle.bcder.specs.calls.Sources.{capturing};
 ghost use Rattle.bcder.specs.calls.Views.{of_constructed, Moved, limited_stream};
 ghost use Rattle.bcder.specs.calls.Walking.{HasNoValue, PassesValue};

@@ -3,7 +3,8 @@ ghost use Rattle.std.specs.Prelude.{◌≡◌, ◌≢◌, ◌≤◌, ◌++◌, �
 ghost use Rattle.bcder.specs.calls.Calls.{Answered, MayBeCalledOn, IsLawfulOn, IsOver};
 ghost use Rattle.bcder.specs.calls.Cause.{cause_of};
 ghost use Rattle.bcder.specs.calls.Content.{Moves, values};
-ghost use Rattle.bcder.specs.calls.Decoding.{RefusesOn, RanOn, IsAllOf, IsAllBehind};
+ghost use Rattle.bcder.specs.calls.Decoding.{RefusesOn, IsAllOf, IsAllBehind};
+ghost use Rattle.bcder.specs.steps.Inside.{RanOn};
 ghost use Rattle.bcder.specs.calls.Decoding.{Decodes, RefusesDecode};
 ghost use Rattle.bcder.specs.calls.Stream.{Stream, borrowed};
 ghost use Rattle.bcder.specs.calls.Views.{of_constructed, limited_stream, before, after, lent};

@@ -3,10 +3,10 @@ ghost use Rattle.std.specs.Prelude.{◌≡◌, IfOk, IfErr};
 ghost use Rattle.bcder.specs.calls.Calls.{MayBeCalledOn, IsLawfulOn};
 ghost use Rattle.bcder.specs.calls.Content.{Moves};
 ghost use Rattle.bcder.specs.calls.Decoding.{IsAllOf};
-ghost use Rattle.bcder.specs.calls.DecodingAll.{DecodesWhole, RefusesWhole};
-ghost use Rattle.bcder.specs.calls.DecodingAll.{AnswersToEnd, RefusesToEnd};
-ghost use Rattle.bcder.specs.calls.DecodingAll.{IsWithin};
-ghost use Rattle.bcder.specs.calls.DecodingAll.{DecodesWithin, RefusesWithin};
+ghost use Rattle.bcder.specs.calls.Decoding.{DecodesWhole, RefusesWhole};
+ghost use Rattle.bcder.specs.calls.Decoding.{AnswersToEnd, RefusesToEnd};
+ghost use Rattle.bcder.specs.calls.Decoding.{IsWithin};
+ghost use Rattle.bcder.specs.calls.Decoding.{DecodesWithin, RefusesWithin};
 ghost use Rattle.bcder.specs.calls.Views.{of_constructed, of_primitive, before, after, MovedOctets};
 ghost use Rattle.bcder.specs.calls.Views.{octets_before, octets_after};
 

@@ -1,8 +1,9 @@
 //! Reading the content of a primitive value as a number, null or bit string, in a closure that gets
 //! content of either form.
+ghost use Rattle.bcder.specs.calls.Readers.{NoBits};
 ghost use Rattle.bcder.specs.x690.BitString.{IsBitString};
 ghost use Rattle.bcder.specs.x690.Number.{IsNumber};
-ghost use Rattle.bcder.specs.calls.ReadBits.{HoldBits, NoBits};
+ghost use Rattle.bcder.specs.calls.Readers.{HoldBits};
 ghost use Rattle.bcder.specs.calls.Readers.{ReadContent, ReadContentBy, RefusedValues, IsUnsigned};
 ghost use Rattle.bcder.specs.calls.Readers.{IsNull, IsThis, MeanAnother};
 ghost use Rattle.bcder.specs.calls.Views.{content_before, MovedContent};

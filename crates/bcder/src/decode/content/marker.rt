@@ -1,6 +1,6 @@
 //! The end-of-contents octets behind values (X.690, 8.1.5).
 ghost use Rattle.std.specs.Prelude.{◌≡◌, ◌≤◌, ◌↔◌, true, IsTrue, List, ℕ, length, take};
-ghost use Rattle.bcder.specs.calls.Capturing.{EndsBy, EndsIn};
+ghost use Rattle.bcder.specs.steps.CaptureSteps.{EndsBy, EndsIn};
 ghost use Rattle.bcder.specs.x690.Encoding.{AreEncodings};
 ghost use Rattle.bcder.specs.x690.Tree.{Trees};
 

@@ -1,13 +1,14 @@
 //! Reading the contents octets of a primitive value as what they mean.
 ghost use Rattle.std.specs.Prelude.{◌≡◌, ◌≤◌, [], false, Some, IfOk, IfErr, OnOk};
 ghost use Rattle.std.specs.Int.{w8, w16, w32, w64, w128};
+ghost use Rattle.bcder.specs.calls.Readers.{AreNot};
 ghost use Rattle.bcder.specs.x690.Number.{IsNumber};
 ghost use Rattle.bcder.specs.x690.Integer.{truth, IsSmallest, Leads};
-ghost use Rattle.bcder.specs.calls.Readers.{AreNeverRefused, RefusesReading, ReadBy};
-ghost use Rattle.bcder.specs.calls.Readers.{ReadOctets, FindNoMemory};
-ghost use Rattle.bcder.specs.calls.Readers.{IsSigned, IsUnsigned, IsTruth, IsNull, Told, Untold};
-ghost use Rattle.bcder.specs.calls.Readers.{LookedAt, ToldOf};
-ghost use Rattle.bcder.specs.calls.Readers.{IsThis, MeanAnother, NotSmallest, NoUnsigned};
+ghost use Rattle.bcder.specs.calls.Readers.{AreNeverRefused, LooksAt, ReadBy, RefusesReading};
+ghost use Rattle.bcder.specs.calls.Readers.{FindNoMemory, ReadOctets};
+ghost use Rattle.bcder.specs.calls.Readers.{IsNull, IsSigned, IsTruth, IsUnsigned, Told, Untold};
+ghost use Rattle.bcder.specs.calls.Readers.{ToldOf};
+ghost use Rattle.bcder.specs.calls.Readers.{IsThis, MeanAnother, NoUnsigned};
 ghost use Rattle.bcder.specs.calls.Cause.{cause_of, of_content};
 ghost use Rattle.bcder.specs.calls.Stream.{borrowed, limited};
 ghost use Rattle.bcder.specs.laws.Limits.{borrowed_sound, limited_sound};
@@ -231,7 +232,7 @@ impl<'a, S: Source> Primitive<'a, S> {
     #[inline(always)]
     pub(crate) fn take_integer(&mut self, alloc: Global) -> Result<Bytes, DecodeError<S::Error>>
         ensures moves { MovedOctets S.stream self }
-        ensures read { ReadBy S.stream self (λ w b. (b ≡ w) × IsSmallest w) NotSmallest result }
+        ensures read { ReadBy S.stream self (λ w b. (b ≡ w) × IsSmallest w) (AreNot IsSmallest) result }
     {
         let len = match self.request_all() {
             Ok(len) => len,
@@ -312,7 +313,8 @@ impl<'a, S: Source> Primitive<'a, S> {
         F: FnOnce(&[u8]) -> T,
         requires { (p : _) → p.now ≡ (of_primitive S.stream self.old).stream.rest → F.pre op p }
         ensures moves { MovedOctets S.stream self }
-        ensures looked { LookedAt S.stream self (ToldOf (λ p. p.now) (F.post op)) result }
+        ensures looked { LooksAt (ToldOf (λ p. p.now) (F.post op)) (of_primitive S.stream self.old)
+            result (of_primitive S.stream self.new) }
     {
         let len = match self.request_all() {
             Ok(len) => len,

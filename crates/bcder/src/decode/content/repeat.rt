@@ -1,7 +1,8 @@
 //! Loops over content.
 ghost use Rattle.std.specs.Prelude.{◌≡◌, IsTrue, ◌↔◌};
-ghost use Rattle.bcder.specs.calls.Repeating.{Collected, MayRepeat, OwesAsBefore};
-ghost use Rattle.bcder.specs.calls.Repeating.{Repeated, RepeatsLawfully};
+ghost use Rattle.bcder.specs.calls.Cause.{cause_of};
+ghost use Rattle.bcder.specs.calls.Repeating.{Collects, MayRepeat, OwesAsBefore, Repeats};
+ghost use Rattle.bcder.specs.calls.Repeating.{RepeatsLawfully};
 ghost use Rattle.bcder.specs.calls.Views.{Moved, of_constructed};
 
 use super::Constructed;
@@ -62,7 +63,8 @@ impl<'a, S: Source> Constructed<'a, S> {
         requires callable { MayRepeat S.stream self F.pre }
         requires lawful { RepeatsLawfully S.stream self F.step }
         ensures moves { Moved S.stream self }
-        ensures repeated { Repeated S.stream self F.step op result }
+        ensures repeated { Repeats cause_of (of_constructed S.stream) F.step op
+            (of_constructed S.stream self.old) result (of_constructed S.stream self.new) }
     {
         for turn in 0..u64::MAX {
             let owed = self.owed();
@@ -106,7 +108,8 @@ impl<'a, S: Source> Constructed<'a, S> {
         requires callable { MayRepeat S.stream self F.pre }
         requires lawful { RepeatsLawfully S.stream self F.step }
         ensures moves { Moved S.stream self }
-        ensures collected { Collected S.stream self F.step op result }
+        ensures collected { Collects cause_of (of_constructed S.stream) F.step op
+            (of_constructed S.stream self.old) result (of_constructed S.stream self.new) }
     {
         let mut all = Vec::new(alloc);
         loop {

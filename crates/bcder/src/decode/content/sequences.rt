@@ -3,7 +3,7 @@ ghost use Rattle.std.specs.Prelude.{◌≡◌, false, Some};
 ghost use Rattle.bcder.specs.calls.Calls.{Answered, IsInside, MayBeCalledOn, IsLawfulOn};
 ghost use Rattle.bcder.specs.calls.Content.{any, tagged};
 ghost use Rattle.bcder.specs.x690.Identifier.{sequence_tag, set_tag};
-ghost use Rattle.bcder.specs.calls.Takes.{Takes, TakesNext};
+ghost use Rattle.bcder.specs.calls.Calls.{Takes, TakesNext};
 ghost use Rattle.bcder.specs.calls.Views.{of_constructed, Moved};
 
 use super::Constructed;

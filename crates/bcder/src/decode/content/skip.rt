@@ -7,9 +7,10 @@ ghost use Rattle.bcder.specs.calls.Cause.{IsOfContent, IsRefusal};
 ghost use Rattle.bcder.specs.calls.Content.{any, FitsOwed, Moves, Resembles};
 ghost use Rattle.bcder.specs.steps.Inside.{kind_behind, limit_inside};
 ghost use Rattle.bcder.specs.steps.Peek.{len_of};
-ghost use Rattle.bcder.specs.calls.Skipping.{SkippedAll, SkippedOne, SkippedValueBy, SkipsValue};
-ghost use Rattle.bcder.specs.calls.Skipping.{RefusesSkip};
-ghost use Rattle.bcder.specs.calls.Takes.{NextBy};
+ghost use Rattle.bcder.specs.calls.Walking.{AllBy, PassesValue, RefusesOne, RefusesSkipAll};
+ghost use Rattle.bcder.specs.calls.Walking.{SkippedValueBy, SkipsValue};
+ghost use Rattle.bcder.specs.calls.Walking.{RefusesSkip};
+ghost use Rattle.bcder.specs.calls.Calls.{NextBy};
 ghost use Rattle.bcder.specs.steps.Stacked.{Counts, Gone, IsCounted};
 ghost use Rattle.bcder.specs.steps.Stacked.{LeavesInnermost, RanOverSource};
 ghost use Rattle.bcder.specs.steps.Stacked.{TopIs};
@@ -18,7 +19,7 @@ ghost use Rattle.bcder.specs.steps.Stacked.{interrupt_cause, limit_around};
 ghost use Rattle.bcder.specs.steps.Stacked.{limit_in};
 ghost use Rattle.bcder.specs.steps.Stacked.{source_of, unwound};
 ghost use Rattle.bcder.specs.calls.Views.{of_constructed, after, before, Moved};
-ghost use Rattle.bcder.specs.calls.Walking.{Between};
+ghost use Rattle.bcder.specs.steps.WalkSteps.{Between};
 ghost use Rattle.bcder.specs.steps.WalkSteps.{Fault, NoFault};
 
 use super::inside::go_inside;
@@ -413,7 +414,8 @@ impl<'a, S: Source> Constructed<'a, S> {
     #[inline(never)]
     fn skip_stacked(&mut self, alloc: Global) -> Result<Option<()>, DecodeError<S::Error>>
         ensures moves { Moves (before S.stream self) (after S.stream self) }
-        ensures skipped { SkippedOne S.stream self result }
+        ensures skipped { NextBy any (λ i _ j. PassesValue i j) (RefusesOne cause_of)
+            (of_constructed S.stream self.old) result (of_constructed S.stream self.new) }
         ensures name { self.new.source.ghost_name ≡ self.old.source.ghost_name }
     {
         let mut all = |_tag: Tag, _constructed: bool, _depth: usize| -> Result<(), ContentError> {
@@ -430,7 +432,8 @@ impl<'a, S: Source> Constructed<'a, S> {
     #[inline(always)]
     fn skip_copy(&mut self, alloc: Global) -> Result<Option<()>, DecodeError<S::Error>>
         ensures moves { Moves (before S.stream self) (after S.stream self) }
-        ensures skipped { SkippedOne S.stream self result }
+        ensures skipped { NextBy any (λ i _ j. PassesValue i j) (RefusesOne cause_of)
+            (of_constructed S.stream self.old) result (of_constructed S.stream self.new) }
     {
         // No call makes the copy, since a call would get the address of the content.
         let mut copy = Constructed {
@@ -475,7 +478,8 @@ impl<'a, S: Source> Constructed<'a, S> {
     #[inline(always)]
     pub fn skip_one(&mut self, alloc: Global) -> Result<Option<()>, DecodeError<S::Error>>
         ensures moves { Moved S.stream self }
-        ensures skipped { SkippedOne S.stream self result }
+        ensures skipped { NextBy any (λ i _ j. PassesValue i j) (RefusesOne cause_of)
+            (of_constructed S.stream self.old) result (of_constructed S.stream self.new) }
     {
         match self.pass_at_hand(Lookahead::Short) {
             Ok(true) => Ok(Some(())),
@@ -491,7 +495,8 @@ impl<'a, S: Source> Constructed<'a, S> {
     /// Returns the errors of [`skip_one`](Self::skip_one).
     pub fn skip_all(&mut self, alloc: Global) -> Result<(), DecodeError<S::Error>>
         ensures moves { Moved S.stream self }
-        ensures skipped { SkippedAll S.stream self result }
+        ensures skipped { AllBy (RefusesSkipAll cause_of) (of_constructed S.stream self.old) result
+            (of_constructed S.stream self.new) }
     {
         while self.skip_one(alloc)?.is_some() {}
         Ok(())

@@ -1,17 +1,18 @@
 //! Passing over the header of the next value.
 ghost use Rattle.std.specs.Prelude.{◌≡◌, Some};
 ghost use Rattle.std.specs.Prelude.{IfOk, IfErr, IfSome, IsErrAnd, OnOk, OnErr};
-ghost use Rattle.bcder.specs.calls.Calls.{popped};
-ghost use Rattle.bcder.specs.calls.Changed.{SameFaults, MoreFaults, SameRest, SameKept};
+ghost use Rattle.bcder.specs.steps.Inside.{popped};
+ghost use Rattle.bcder.specs.calls.Sources.{SameFaults, MoreFaults, SameRest, SameKept};
 ghost use Rattle.bcder.specs.calls.Cause.{cause_of, IsRefusal};
 ghost use Rattle.bcder.specs.steps.StopCause.{stop_cause};
-ghost use Rattle.bcder.specs.calls.Content.{any, tagged, Moves, Enters, TakesMarker, NoFront};
+ghost use Rattle.bcder.specs.calls.Content.{any, tagged, Moves};
+ghost use Rattle.bcder.specs.steps.Entering.{Enters, TakesMarker, NoFront};
 ghost use Rattle.bcder.specs.steps.Entering.{EntersNext, EntersOctets, FindsNone, RefusesNext};
 ghost use Rattle.bcder.specs.steps.Entering.{GoesOn, MeetsNoFault, NamesViolation};
 ghost use Rattle.bcder.specs.steps.Peek.{header_of, octets_header, asked};
 ghost use Rattle.bcder.specs.steps.Peek.{Fronts, FrontsEnd};
 ghost use Rattle.bcder.specs.declared.mode.Mode.{Mode as ModeValue};
-ghost use Rattle.bcder.specs.calls.Takes.{TellsNone};
+ghost use Rattle.bcder.specs.calls.Calls.{TellsNone};
 ghost use Rattle.bcder.specs.calls.Views.{before, after, limited_stream};
 
 use super::{Constructed, Kind, Primitive, State};

@@ -2,9 +2,9 @@
 ghost use Rattle.bcder.specs.x690.Identifier.{boolean_tag, integer_tag, null_tag};
 ghost use Rattle.bcder.specs.x690.Number.{IsNumber};
 ghost use Rattle.bcder.specs.calls.Readers.{IsUnsigned, IsTruth, IsNull, IsThis, MeanAnother};
-ghost use Rattle.bcder.specs.calls.Typed.{TookNextAs, TookOneAs, PassedNextAs, TookOneBy};
-ghost use Rattle.bcder.specs.calls.Typed.{PassedNextBy};
-ghost use Rattle.bcder.specs.calls.Views.{before, Moved};
+ghost use Rattle.bcder.specs.calls.Valued.{PassesNextAs, PassesNextBy, TakesNextAs, TakesOneAs};
+ghost use Rattle.bcder.specs.calls.Valued.{TakesOneBy};
+ghost use Rattle.bcder.specs.calls.Views.{Moved, before, of_constructed};
 
 use super::Constructed;
 use crate::decode::error::DecodeError;
@@ -18,8 +18,8 @@ impl<'a, S: Source> Constructed<'a, S> {
     #[inline(always)]
     fn take_number<N: Number + Drop>(&mut self) -> Result<N, DecodeError<S::Error>>
         ensures moves { Moved S.stream self }
-        ensures took { TookOneAs S.stream self integer_tag
-            (IsNumber N.value N.in_range) result }
+        ensures took { TakesOneAs integer_tag (IsNumber N.value N.in_range)
+            (of_constructed S.stream self.old) result (of_constructed S.stream self.new) }
     {
         self.take_primitive_if(Tag::INTEGER, |octets| octets.read_number())
     }
@@ -33,8 +33,8 @@ impl<'a, S: Source> Constructed<'a, S> {
     #[inline(always)]
     pub fn take_bool(&mut self) -> Result<bool, DecodeError<S::Error>>
         ensures moves { Moved S.stream self }
-        ensures took { TookOneAs S.stream self boolean_tag
-            (IsTruth (before S.stream self).mode) result }
+        ensures took { TakesOneAs boolean_tag (IsTruth (before S.stream self).mode)
+            (of_constructed S.stream self.old) result (of_constructed S.stream self.new) }
     {
         self.take_primitive_if(Tag::BOOLEAN, |octets| octets.to_bool())
     }
@@ -57,8 +57,8 @@ impl<'a, S: Source> Constructed<'a, S> {
     #[inline(always)]
     pub fn take_opt_bool(&mut self) -> Result<Option<bool>, DecodeError<S::Error>>
         ensures moves { Moved S.stream self }
-        ensures took { TookNextAs S.stream self boolean_tag
-            (IsTruth (before S.stream self).mode) result }
+        ensures took { TakesNextAs boolean_tag (IsTruth (before S.stream self).mode)
+            (of_constructed S.stream self.old) result (of_constructed S.stream self.new) }
     {
         self.take_opt_primitive_if(Tag::BOOLEAN, |octets| octets.to_bool())
     }
@@ -72,7 +72,8 @@ impl<'a, S: Source> Constructed<'a, S> {
     #[inline(always)]
     pub fn take_null(&mut self) -> Result<(), DecodeError<S::Error>>
         ensures moves { Moved S.stream self }
-        ensures took { TookOneAs S.stream self null_tag IsNull result }
+        ensures took { TakesOneAs null_tag IsNull (of_constructed S.stream self.old) result
+            (of_constructed S.stream self.new) }
     {
         self.take_primitive_if(Tag::NULL, |octets| octets.to_null())
     }
@@ -94,7 +95,8 @@ impl<'a, S: Source> Constructed<'a, S> {
     #[inline(always)]
     pub fn take_opt_null(&mut self) -> Result<(), DecodeError<S::Error>>
         ensures moves { Moved S.stream self }
-        ensures took { PassedNextAs S.stream self null_tag IsNull result }
+        ensures took { PassesNextAs null_tag IsNull (of_constructed S.stream self.old) result
+            (of_constructed S.stream self.new) }
     {
         match self.take_opt_primitive_if(Tag::NULL, |octets| octets.to_null()) {
             Ok(_) => Ok(()),
@@ -111,7 +113,8 @@ impl<'a, S: Source> Constructed<'a, S> {
     #[inline(always)]
     pub fn take_u8(&mut self) -> Result<u8, DecodeError<S::Error>>
         ensures moves { Moved S.stream self }
-        ensures took { TookOneAs S.stream self integer_tag (IsUnsigned 8) result }
+        ensures took { TakesOneAs integer_tag (IsUnsigned 8) (of_constructed S.stream self.old)
+            result (of_constructed S.stream self.new) }
     {
         self.take_number()
     }
@@ -134,7 +137,8 @@ impl<'a, S: Source> Constructed<'a, S> {
     #[inline(always)]
     pub fn take_opt_u8(&mut self) -> Result<Option<u8>, DecodeError<S::Error>>
         ensures moves { Moved S.stream self }
-        ensures took { TookNextAs S.stream self integer_tag (IsUnsigned 8) result }
+        ensures took { TakesNextAs integer_tag (IsUnsigned 8) (of_constructed S.stream self.old)
+            result (of_constructed S.stream self.new) }
     {
         self.take_opt_primitive_if(Tag::INTEGER, |octets| octets.to_u8())
     }
@@ -148,7 +152,8 @@ impl<'a, S: Source> Constructed<'a, S> {
     #[inline(always)]
     pub fn take_u16(&mut self) -> Result<u16, DecodeError<S::Error>>
         ensures moves { Moved S.stream self }
-        ensures took { TookOneAs S.stream self integer_tag (IsUnsigned 16) result }
+        ensures took { TakesOneAs integer_tag (IsUnsigned 16) (of_constructed S.stream self.old)
+            result (of_constructed S.stream self.new) }
     {
         self.take_number()
     }
@@ -164,7 +169,8 @@ impl<'a, S: Source> Constructed<'a, S> {
     #[inline(always)]
     pub fn take_opt_u16(&mut self) -> Result<Option<u16>, DecodeError<S::Error>>
         ensures moves { Moved S.stream self }
-        ensures took { TookNextAs S.stream self integer_tag (IsUnsigned 16) result }
+        ensures took { TakesNextAs integer_tag (IsUnsigned 16) (of_constructed S.stream self.old)
+            result (of_constructed S.stream self.new) }
     {
         self.take_opt_primitive_if(Tag::INTEGER, |octets| octets.to_u16())
     }
@@ -178,7 +184,8 @@ impl<'a, S: Source> Constructed<'a, S> {
     #[inline(always)]
     pub fn take_u32(&mut self) -> Result<u32, DecodeError<S::Error>>
         ensures moves { Moved S.stream self }
-        ensures took { TookOneAs S.stream self integer_tag (IsUnsigned 32) result }
+        ensures took { TakesOneAs integer_tag (IsUnsigned 32) (of_constructed S.stream self.old)
+            result (of_constructed S.stream self.new) }
     {
         self.take_number()
     }
@@ -194,7 +201,8 @@ impl<'a, S: Source> Constructed<'a, S> {
     #[inline(always)]
     pub fn take_opt_u32(&mut self) -> Result<Option<u32>, DecodeError<S::Error>>
         ensures moves { Moved S.stream self }
-        ensures took { TookNextAs S.stream self integer_tag (IsUnsigned 32) result }
+        ensures took { TakesNextAs integer_tag (IsUnsigned 32) (of_constructed S.stream self.old)
+            result (of_constructed S.stream self.new) }
     {
         self.take_opt_primitive_if(Tag::INTEGER, |octets| octets.to_u32())
     }
@@ -208,7 +216,8 @@ impl<'a, S: Source> Constructed<'a, S> {
     #[inline(always)]
     pub fn take_u64(&mut self) -> Result<u64, DecodeError<S::Error>>
         ensures moves { Moved S.stream self }
-        ensures took { TookOneAs S.stream self integer_tag (IsUnsigned 64) result }
+        ensures took { TakesOneAs integer_tag (IsUnsigned 64) (of_constructed S.stream self.old)
+            result (of_constructed S.stream self.new) }
     {
         self.take_number()
     }
@@ -224,7 +233,8 @@ impl<'a, S: Source> Constructed<'a, S> {
     #[inline(always)]
     pub fn take_opt_u64(&mut self) -> Result<Option<u64>, DecodeError<S::Error>>
         ensures moves { Moved S.stream self }
-        ensures took { TookNextAs S.stream self integer_tag (IsUnsigned 64) result }
+        ensures took { TakesNextAs integer_tag (IsUnsigned 64) (of_constructed S.stream self.old)
+            result (of_constructed S.stream self.new) }
     {
         self.take_opt_primitive_if(Tag::INTEGER, |octets| octets.to_u64())
     }
@@ -238,8 +248,8 @@ impl<'a, S: Source> Constructed<'a, S> {
     #[inline(always)]
     pub fn skip_u8_if(&mut self, expected: u8) -> Result<(), DecodeError<S::Error>>
         ensures moves { Moved S.stream self }
-        ensures took { TookOneBy S.stream self integer_tag
-            (IsThis 8 expected) (MeanAnother expected) result }
+        ensures took { TakesOneBy integer_tag (IsThis 8 expected) (MeanAnother expected)
+            (of_constructed S.stream self.old) result (of_constructed S.stream self.new) }
     {
         self.take_primitive_if(Tag::INTEGER, |octets| octets.skip_u8_if(expected))
     }
@@ -256,8 +266,8 @@ impl<'a, S: Source> Constructed<'a, S> {
     #[inline(always)]
     pub fn skip_opt_u8_if(&mut self, expected: u8) -> Result<(), DecodeError<S::Error>>
         ensures moves { Moved S.stream self }
-        ensures took { PassedNextBy S.stream self integer_tag
-            (IsThis 8 expected) (MeanAnother expected) result }
+        ensures took { PassesNextBy integer_tag (IsThis 8 expected) (MeanAnother expected)
+            (of_constructed S.stream self.old) result (of_constructed S.stream self.new) }
     {
         match self.take_opt_primitive_if(Tag::INTEGER, |octets| octets.skip_u8_if(expected)) {
             Ok(_) => Ok(()),

@@ -2,7 +2,7 @@
 ghost use Rattle.std.specs.Prelude.{◌≡◌, None};
 ghost use Rattle.bcder.specs.calls.Calls.{Answered, IsInside, MayBeCalledOn, IsLawfulOn};
 ghost use Rattle.bcder.specs.calls.Content.{any, tagged};
-ghost use Rattle.bcder.specs.calls.Takes.{Takes, TakesNext};
+ghost use Rattle.bcder.specs.calls.Calls.{Takes, TakesNext};
 ghost use Rattle.bcder.specs.calls.Views.{of_constructed, of_content, content_before};
 ghost use Rattle.bcder.specs.calls.Views.{content_after, Moved};
 

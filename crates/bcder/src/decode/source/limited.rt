@@ -2,11 +2,11 @@
 ghost use Rattle.std.specs.Prelude.{◌≡◌, true, ℕ, ◌+◌, ◌-◌, ◌^◌, ◌<◌, ◌≤◌, List, [], ◌∷◌, ◌++◌};
 ghost use Rattle.std.specs.Prelude.{length, take, drop, slice_range};
 ghost use Rattle.std.specs.Prelude.{Some, None, IsSome, IfOk, IfErr, OnOk, OnErr};
-ghost use Rattle.bcder.specs.calls.Calls.{popped};
-ghost use Rattle.bcder.specs.calls.Changed.{SameFaults, MoreFaults, SameRest, SamePosition};
-ghost use Rattle.bcder.specs.calls.Changed.{SameKept};
-ghost use Rattle.bcder.specs.calls.Changed.{RefusedWhere, inside, EndsEarly, ReachesLimit};
-ghost use Rattle.bcder.specs.calls.Changed.{HasNoneLeft};
+ghost use Rattle.bcder.specs.steps.Inside.{popped};
+ghost use Rattle.bcder.specs.calls.Sources.{SameFaults, MoreFaults, SameRest, SamePosition};
+ghost use Rattle.bcder.specs.calls.Sources.{SameKept};
+ghost use Rattle.bcder.specs.calls.Sources.{RefusedWhere, inside, EndsEarly, ReachesLimit};
+ghost use Rattle.bcder.specs.calls.Sources.{HasNoneLeft};
 ghost use Rattle.bcder.specs.calls.Cause.{cause_of, position_of, MatchCause, IsRefusal};
 ghost use Rattle.bcder.specs.steps.StopCause.{MatchStop};
 ghost use Rattle.bcder.specs.calls.Content.{FitsOwed};

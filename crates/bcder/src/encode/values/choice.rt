@@ -1,10 +1,13 @@
 //! Encoders of optional values, and of one of several.
-ghost use Rattle.bcder.specs.calls.Joined.{NoValues};
+ghost use Rattle.bcder.specs.calls.Meaning.{NoValues};
 ghost use Rattle.bcder.specs.calls.Noted.{ReadsNone};
-ghost use Rattle.bcder.specs.calls.Choices.{OptionMeans, OptionLacks, OptionReads, OptionCan};
-ghost use Rattle.bcder.specs.calls.Choices.{option_lawful, EitherReads, AnyReads};
-ghost use Rattle.bcder.specs.calls.Choices.{EitherMeans, EitherHolds, either_lawful};
-ghost use Rattle.bcder.specs.calls.Choices.{AnyMeans, AnyHolds, any_lawful};
+ghost use Rattle.bcder.specs.calls.Iterated.{OptionMeans, OptionLacks, OptionReads, OptionCan};
+ghost use Rattle.bcder.specs.laws.Composed.{option_lawful};
+ghost use Rattle.bcder.specs.calls.Iterated.{EitherReads, AnyReads};
+ghost use Rattle.bcder.specs.calls.Iterated.{EitherMeans, EitherHolds};
+ghost use Rattle.bcder.specs.laws.Composed.{either_lawful};
+ghost use Rattle.bcder.specs.calls.Iterated.{AnyMeans, AnyHolds};
+ghost use Rattle.bcder.specs.laws.Composed.{any_lawful};
 ghost use Rattle.bcder.specs.laws.Joined.{NoValues_lawful};
 
 use crate::encode::sizes::{Sizes, SizesLeft};

@@ -1,7 +1,8 @@
 //! The items of an iterator, one after the other.
 ghost use Rattle.std.specs.Prelude.{◌≡◌, IfOk, OnErr};
-ghost use Rattle.bcder.specs.calls.Iterated.{RunsMean, RunsLack, GivesOneList, runs_lawful};
-ghost use Rattle.bcder.specs.calls.Joined.{Joined};
+ghost use Rattle.bcder.specs.calls.Iterated.{RunsMean, RunsLack, GivesOneList};
+ghost use Rattle.bcder.specs.laws.Composed.{runs_lawful};
+ghost use Rattle.bcder.specs.calls.Meaning.{Joined};
 ghost use Rattle.bcder.specs.calls.Noted.{ReadsNone};
 ghost use Rattle.bcder.specs.laws.Joined.{Joined_lawful};
 

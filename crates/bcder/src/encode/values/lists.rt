@@ -1,6 +1,6 @@
 //! Lists of encoders: their values, one after the other.
 ghost use Rattle.std.specs.Prelude.{Any, All, IfOk};
-ghost use Rattle.bcder.specs.calls.Joined.{EachOf, Joined};
+ghost use Rattle.bcder.specs.calls.Meaning.{EachOf, Joined};
 ghost use Rattle.bcder.specs.calls.Encoders.{SizeOfValues};
 ghost use Rattle.bcder.specs.calls.Noted.{ReadsEach, Notes};
 ghost use Rattle.bcder.specs.laws.Joined.{EachOf_lawful, Joined_lawful};

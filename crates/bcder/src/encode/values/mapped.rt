@@ -1,9 +1,9 @@
 //! The items of a slice, each encoded as what a closure returns for it.
 ghost use Rattle.std.specs.Prelude.{◌≡◌, All, Any};
 ghost use Rattle.bcder.specs.calls.Encoders.{HasEncoding, SizeOfValues, WritesParts, into_result};
-ghost use Rattle.bcder.specs.calls.Joined.{EachOf, Joined};
-ghost use Rattle.bcder.specs.calls.Slices.{TakesItem, Gives, ItemMeans, ItemLacks, MayMap};
-ghost use Rattle.bcder.specs.calls.Slices.{item_lawful};
+ghost use Rattle.bcder.specs.calls.Meaning.{EachOf, Joined};
+ghost use Rattle.bcder.specs.calls.Iterated.{TakesItem, Gives, ItemMeans, ItemLacks, MayMap};
+ghost use Rattle.bcder.specs.laws.Composed.{item_lawful};
 ghost use Rattle.bcder.specs.calls.Noted.{ReadsNone};
 ghost use Rattle.bcder.specs.laws.Joined.{EachOf_lawful, Joined_lawful};
 

@@ -4,7 +4,7 @@ ghost use Rattle.bcder.specs.declared.mode.Mode.{Mode};
 ghost use Rattle.bcder.specs.calls.Meaning.{Meaning, IsLawful};
 ghost use Rattle.bcder.specs.calls.Encoders.{HasEncoding, SizeOfValues, WritesParts};
 ghost use Rattle.bcder.specs.calls.Encoders.{TellsSum, WritesKnown, into_result};
-ghost use Rattle.bcder.specs.calls.Joined.{Then, NoValues, Joined, IsSum};
+ghost use Rattle.bcder.specs.calls.Meaning.{Then, NoValues, Joined, IsSum};
 ghost use Rattle.bcder.specs.calls.Noted.{ReadsNone, ReadsThen, Notes, MayRead, HasRead};
 ghost use Rattle.bcder.specs.calls.Noted.{noted};
 ghost use Rattle.bcder.specs.laws.Joined.{Then_lawful, NoValues_lawful};

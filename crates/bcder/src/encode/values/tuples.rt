@@ -1,6 +1,6 @@
 //! Tuples of encoders: their values, one after the other.
 ghost use Rattle.std.specs.Prelude.{◌⊎◌, ⊤};
-ghost use Rattle.bcder.specs.calls.Joined.{Then, NoValues, Joined};
+ghost use Rattle.bcder.specs.calls.Meaning.{Then, NoValues, Joined};
 ghost use Rattle.bcder.specs.calls.Noted.{ReadsNone, ReadsThen};
 ghost use Rattle.bcder.specs.laws.Joined.{Then_lawful, NoValues_lawful, Joined_lawful};
 

@@ -5,7 +5,7 @@ ghost use Rattle.bcder.specs.calls.Encoders.{HasEncoding, SizeOfValues, WritesPa
 ghost use Rattle.bcder.specs.calls.Encoders.{into_result};
 ghost use Rattle.bcder.specs.calls.Noted.{ReadsNone};
 ghost use Rattle.bcder.specs.calls.StringMeaning.{StringMeans};
-ghost use Rattle.bcder.specs.calls.WrittenStrings.{IsMadeUp};
+ghost use Rattle.bcder.specs.calls.Written.{IsMadeUp};
 ghost use Rattle.bcder.specs.laws.StringMeanings.{StringMeans_lawful};
 
 use super::write::{octets_len, put_octets, put_string, string_len};

@@ -3,7 +3,7 @@ ghost use Rattle.std.specs.Prelude.{◌≡◌, ◌+◌, ◌≤◌, ◌<◌, ◌+
 ghost use Rattle.std.specs.Cmp.Lexicographic.{bytes_decides};
 ghost use Rattle.std.specs.List.{concat, fold};
 ghost use Rattle.std.proofs.Common.{ap};
-ghost use Rattle.bcder.specs.calls.Blocks.{blocks, hashed};
+ghost use Rattle.bcder.specs.calls.StringOctets.{blocks, hashed};
 ghost use Rattle.bcder.specs.calls.StringOctets.{octets_of};
 
 use super::compare::front;

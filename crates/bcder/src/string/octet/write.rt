@@ -7,7 +7,7 @@ ghost use Rattle.bcder.specs.declared.mode.Mode.TheVariants.{Cer};
 ghost use Rattle.bcder.specs.calls.Encoders.{HasEncoding, SizeOfValues, WritesParts};
 ghost use Rattle.bcder.specs.calls.Encoders.{WroteOctets, into_result};
 ghost use Rattle.bcder.specs.steps.Buffer.{buffered};
-ghost use Rattle.bcder.specs.calls.Joined.{IsSum};
+ghost use Rattle.bcder.specs.calls.Meaning.{IsSum};
 ghost use Rattle.bcder.specs.calls.StringMeaning.{is_cut, OctetsMean, segments_in_cer};
 ghost use Rattle.bcder.specs.steps.Segmenting.{BeginsSegment, CutSize, segments_size, WritesPart};
 

@@ -2,7 +2,7 @@
 ghost use Rattle.std.specs.Prelude.{◌≡◌, ◌↔◌, ◌<◌, ℕ, Bool, true, IsTrue, IfSome, encode_utf8_all};
 ghost use Rattle.bcder.specs.x690.Characters.{characters};
 ghost use Rattle.bcder.specs.x690.CharSet.{IsOfSet};
-ghost use Rattle.bcder.specs.calls.CharSetCalls.{NextChar, Checks, SpellsText};
+ghost use Rattle.bcder.specs.calls.RestrictedString.{NextChar, Checks, SpellsText};
 ghost use Rattle.bcder.specs.x690.AsciiSets.{one_octet_step, is_numeric, is_printable, is_ia5};
 ghost use Rattle.bcder.specs.x690.AsciiSets.{numeric_string_tag, printable_string_tag};
 ghost use Rattle.bcder.specs.x690.AsciiSets.{ia5_string_tag};

@@ -4,7 +4,7 @@ ghost use Rattle.std.specs.Str.{IsUtf8};
 ghost use Rattle.bcder.specs.x690.Characters.{characters};
 ghost use Rattle.bcder.specs.x690.Identifier.{Tag as TagValue};
 ghost use Rattle.bcder.specs.x690.CharSet.{Step, IsStep, IsOfSet};
-ghost use Rattle.bcder.specs.calls.CharSetCalls.{NextChar, Checks, SpellsText};
+ghost use Rattle.bcder.specs.calls.RestrictedString.{NextChar, Checks, SpellsText};
 ghost use Rattle.bcder.specs.x690.TextSets.{AreTexts};
 
 use crate::memory::NoMemory;
@@ -43,7 +43,7 @@ pub enum StringError {
 
 impl fmt::Display for StringError {
     ghost use Rattle.std.specs.Prelude.{Some};
-    ghost use Rattle.bcder.specs.calls.CharSetTexts.{string_error_text};
+    ghost use Rattle.bcder.specs.calls.RestrictedString.{string_error_text};
 
     ghost output = { λ e. Some (string_error_text e) };
 

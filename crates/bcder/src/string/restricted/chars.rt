@@ -27,7 +27,7 @@ impl<'a, L: CharSet> Model for RestrictedStringChars<'a, L> {
     ghost use Rattle.std.specs.Prelude.{ℕ, List, IfSome};
     ghost use Rattle.std.specs.Str.{IsUtf8};
     ghost use Rattle.bcder.specs.x690.CharSet.{IsOfSet};
-    ghost use Rattle.bcder.specs.calls.CharSetCalls.{characters_left};
+    ghost use Rattle.bcder.specs.calls.RestrictedString.{characters_left};
 
     ghost Value = { List ℕ };
 

@@ -7,7 +7,7 @@ ghost use Rattle.std.specs.Cmp.Lexicographic.{bytes_decides};
 ghost use Rattle.std.specs.Cmp.Rules.{comparing};
 ghost use Rattle.std.specs.Ordering.{nat_cmp};
 ghost use Rattle.std.proofs.Common.{ap, rules};
-ghost use Rattle.bcder.specs.calls.Blocks.{hashed};
+ghost use Rattle.bcder.specs.calls.StringOctets.{hashed};
 ghost use Rattle.bcder.specs.calls.StringOctets.{octets_of};
 
 use super::{CharSet, RestrictedString};

@@ -2,7 +2,7 @@
 ghost use Rattle.std.specs.Prelude.{◌≡◌, ◌+◌, ◌*◌, ◌<◌, ◌≤◌, ◌↔◌, IsTrue, None, Some, length};
 ghost use Rattle.std.specs.Prelude.{take, IfOk, IfSome, MatchOption, MatchResult};
 ghost use Rattle.std.specs.Str.{IsUtf8};
-ghost use Rattle.bcder.specs.calls.CharSetCalls.{Checks};
+ghost use Rattle.bcder.specs.calls.RestrictedString.{Checks};
 ghost use Rattle.bcder.specs.x690.Utf8.{utf8_string_tag, utf8_step, lead, read_behind};
 ghost use Rattle.bcder.specs.steps.Utf8Leads.{of_lead};
 ghost use Rattle.bcder.specs.laws.Utf8.{utf8_lawful, utf8_text};

@@ -1,5 +1,5 @@
 use Rattle.std.proofs.Common.{◌≡◌, ◌-◌, ◌++◌, ◌∷◌, [], true, false, Some, refl, sym, subst, rules}
-use Rattle.bcder.specs.calls.ContentsLen.{length_of}
+use Rattle.bcder.specs.calls.Content.{length_of}
 use Rattle.bcder.specs.x690.Octets.{header, constructed_length}
 use Rattle.encodings.specs.Pieces.{HoldsFrames, IsAtBack, all_octets, with_made}
 use Rattle.encodings.proofs.Converting.{beginning_held, string_held, value_held, made_begun, made_begun_string, made_part_of}

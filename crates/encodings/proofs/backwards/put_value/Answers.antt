@@ -1,5 +1,5 @@
 use Rattle.std.proofs.Common.{false, Some, length, sym, subst, append_assoc}
-use Rattle.bcder.specs.calls.ContentsLen.{length_of}
+use Rattle.bcder.specs.calls.Content.{length_of}
 use Rattle.bcder.specs.x690.Octets.{header}
 use Rattle.encodings.specs.Pieces.{IsAtBack}
 use Rattle.encodings.proofs.backwards.put_value.Goals as goal

@@ -1,5 +1,5 @@
 use Rattle.std.proofs.Common.{rules}
-use Rattle.bcder.specs.calls.ReadIdentifiers.{HoldIdentifier}
+use Rattle.bcder.specs.calls.Readers.{HoldIdentifier}
 use Rattle.encodings.proofs.Alone.{read_alone, refused_alone}
 use Rattle.encodings.proofs.contents.identifier_of.Goals.{in-Ok, in-Err}
 use Rattle.encodings.proofs.contents.identifier_of.Goals as goal

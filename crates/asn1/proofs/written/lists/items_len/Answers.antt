@@ -1,5 +1,5 @@
 use Rattle.std.proofs.Common.{subst, sym, drop, ◌+◌}
-use Rattle.bcder.specs.calls.Joined.{EachOf}
+use Rattle.bcder.specs.calls.Meaning.{EachOf}
 use Rattle.bcder.proofs.Lemmas.{SumSoFar, so_far_start, so_far_next, so_far_refused, so_far_done, sum_refused, EachOf_at, EachOf_end}
 use Rattle.asn1.proofs.written.lists.items_len.Goals as goal
 

@@ -1,5 +1,5 @@
 use Rattle.std.proofs.Common.{drop}
-use Rattle.bcder.specs.calls.Joined.{EachOf}
+use Rattle.bcder.specs.calls.Meaning.{EachOf}
 use Rattle.bcder.proofs.Lemmas.{SumSoFar}
 use Rattle.asn1.proofs.written.lists.items_len.Given as goal
 

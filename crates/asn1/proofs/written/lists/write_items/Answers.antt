@@ -1,5 +1,5 @@
 use Rattle.std.proofs.Common.{subst, sym, drop, ◌+◌}
-use Rattle.bcder.specs.calls.Joined.{EachOf}
+use Rattle.bcder.specs.calls.Meaning.{EachOf}
 use Rattle.bcder.proofs.Lemmas.{WrittenSoFar, written_none, written_all, EachOf_at, EachOf_end}
 use Rattle.asn1.proofs.Listing.{written_on, written_stopped, stops}
 use Rattle.asn1.proofs.written.lists.write_items.Goals as goal

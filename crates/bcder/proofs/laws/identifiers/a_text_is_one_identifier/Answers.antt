@@ -1,4 +1,4 @@
-use Rattle.bcder.specs.calls.IdentifierText.{between_dots}
+use Rattle.bcder.specs.calls.Identifiers.{between_dots}
 use Rattle.bcder.proofs.ReadBack.{one_read, refused}
 use Rattle.bcder.proofs.laws.identifiers.a_text_is_one_identifier.Goals as goal
 

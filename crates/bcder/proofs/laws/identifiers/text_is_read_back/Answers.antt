@@ -1,4 +1,4 @@
-use Rattle.bcder.specs.calls.IdentifierText.{between_dots}
+use Rattle.bcder.specs.calls.Identifiers.{between_dots}
 use Rattle.bcder.proofs.ReadBack.{held}
 use Rattle.bcder.proofs.Decimal.{read_back}
 use Rattle.bcder.proofs.laws.identifiers.text_is_read_back.Goals as goal

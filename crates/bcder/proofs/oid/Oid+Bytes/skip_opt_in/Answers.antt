@@ -1,6 +1,6 @@
 use Rattle.std.proofs.Common.{rules}
 use Rattle.bcder.specs.x690.ObjectIdentifier.{identifier_tag}
-use Rattle.bcder.specs.calls.ReadIdentifiers.{HoldIdentifier}
+use Rattle.bcder.specs.calls.Readers.{HoldIdentifier}
 use Rattle.bcder.specs.calls.Readers.{MeanNothing}
 use Rattle.bcder.specs.calls.Views.{of_constructed, of_primitive}
 use Rattle.bcder.proofs.SameBorrow.{within_constructed}

@@ -1,8 +1,8 @@
 use Rattle.std.proofs.Common.{◌≡◌, rules, [], ◌∷◌, ◌++◌, map, refl}
 use Rattle.std.specs.Prelude.{codes}
 use Rattle.std.proofs.Output.{has_written_append, has_written_of_eq}
-use Rattle.bcder.specs.calls.Components.{part_of, parts_left, component_parts}
-use Rattle.bcder.specs.calls.IdentifierText.{dots_before}
+use Rattle.bcder.specs.calls.Identifiers.{part_of, parts_left, component_parts}
+use Rattle.bcder.specs.calls.Identifiers.{dots_before}
 use Rattle.bcder.proofs.ComponentTexts.{shown_part, shown_more, shown_all}
 use Rattle.bcder.proofs.oid.OidDisplay.fmt.Goals as goal
 

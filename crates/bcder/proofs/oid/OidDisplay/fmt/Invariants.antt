@@ -1,8 +1,8 @@
 -- What was written goes on to the text of all components after the first.
 use Rattle.std.proofs.Common.{◌≡◌, List, ℕ, ◌++◌, map}
 use Rattle.std.specs.Fmt.{HasWritten, IsPlainFormatter}
-use Rattle.bcder.specs.calls.Components.{parts_left}
-use Rattle.bcder.specs.calls.IdentifierText.{dots_before}
+use Rattle.bcder.specs.calls.Identifiers.{parts_left}
+use Rattle.bcder.specs.calls.Identifiers.{dots_before}
 use Rattle.bcder.proofs.ComponentTexts.{shown_part}
 use Rattle.bcder.proofs.oid.OidDisplay.fmt.Given as goal
 

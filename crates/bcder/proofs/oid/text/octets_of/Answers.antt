@@ -1,6 +1,6 @@
 use Rattle.std.proofs.Common.{◌∙◌, ap, arith, refl}
-use Rattle.bcder.specs.calls.IdentifierText.{MayBegin, RefusesText}
-use Rattle.bcder.specs.calls.IdentifierText.RefusesTexts.{first_too_large, second_is_none, second_too_large}
+use Rattle.bcder.specs.calls.Identifiers.{MayBegin, RefusesText}
+use Rattle.bcder.specs.calls.Identifiers.RefusesTexts.{first_too_large, second_is_none, second_too_large}
 use Rattle.bcder.specs.steps.Pushed.{texts_of}
 use Rattle.bcder.proofs.Refusing.{residual}
 use Rattle.bcder.proofs.Spelling.{refuses, others_refused}

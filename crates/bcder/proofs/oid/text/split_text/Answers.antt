@@ -1,6 +1,6 @@
 use Rattle.std.proofs.Common.{◌∙◌, ap, [], arith, Some, None}
 use Rattle.std.proofs.lemmas.Str.Pattern.{split_parts}
-use Rattle.bcder.specs.calls.IdentifierText.{between_dots}
+use Rattle.bcder.specs.calls.Identifiers.{between_dots}
 use Rattle.bcder.proofs.Texts.{split_dot, split_none}
 use Rattle.bcder.proofs.oid.text.split_text.Goals as goal
 

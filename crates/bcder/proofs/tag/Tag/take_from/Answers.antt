@@ -1,5 +1,5 @@
 use Rattle.std.proofs.Common.{sym, ◌∙◌, rules}
-use Rattle.bcder.specs.calls.Begins.{BeginsNoIdentifier}
+use Rattle.bcder.specs.calls.Violations.{BeginsNoIdentifier}
 use Rattle.bcder.proofs.Beginnings.{end_begins_no_identifier}
 use Rattle.bcder.proofs.tag.Tag.take_from.Goals as goal
 

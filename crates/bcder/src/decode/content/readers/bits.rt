@@ -1,7 +1,8 @@
 //! Reading the contents octets of a bit string (X.690, 8.6.2).
 ghost use Rattle.std.specs.Prelude.{◌≡◌, ◌≤◌, IfOk};
+ghost use Rattle.bcder.specs.calls.Readers.{NoBits};
 ghost use Rattle.bcder.specs.x690.BitString.{contents_octets, BitShape, IsBitString};
-ghost use Rattle.bcder.specs.calls.ReadBits.{HoldBits, NoBits};
+ghost use Rattle.bcder.specs.calls.Readers.{HoldBits};
 ghost use Rattle.bcder.specs.calls.Readers.{ReadBy, ReadOctets};
 ghost use Rattle.bcder.specs.calls.Views.{of_primitive, octets_before, MovedOctets};
 ghost use Rattle.bcder.specs.steps.Remaining.{HasAll};

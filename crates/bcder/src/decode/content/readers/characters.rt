@@ -1,8 +1,8 @@
 //! Reading the contents octets of a restricted string (X.690, 8.23).
 ghost use Rattle.std.specs.Prelude.{◌≡◌};
+ghost use Rattle.bcder.specs.calls.Readers.{AreNot};
 ghost use Rattle.bcder.specs.x690.CharSet.{IsOfSet};
 ghost use Rattle.bcder.specs.calls.Readers.{ReadBy};
-ghost use Rattle.bcder.specs.calls.ReadCharacters.{NoCharacters};
 ghost use Rattle.bcder.specs.calls.Views.{MovedOctets};
 
 use super::super::Primitive;
@@ -24,7 +24,7 @@ impl<'a, S: Source> Primitive<'a, S> {
     ) -> Result<Bytes, DecodeError<S::Error>>
         ensures moves { MovedOctets S.stream self }
         ensures read { ReadBy S.stream self
-            (λ w b. (b ≡ w) × IsOfSet L.step w) (NoCharacters L.step) result }
+            (λ w b. (b ≡ w) × IsOfSet L.step w) (AreNot (IsOfSet L.step)) result }
     {
         let len = match self.request_all() {
             Ok(len) => len,

@@ -1,8 +1,9 @@
 //! Reading the contents octets of an object identifier (X.690, 8.19).
 ghost use Rattle.std.specs.Prelude.{◌≡◌};
+ghost use Rattle.bcder.specs.calls.Readers.{AreNot};
 ghost use Rattle.bcder.specs.x690.ObjectIdentifier.{IsComplete};
 ghost use Rattle.bcder.specs.calls.Readers.{ReadBy, ReadOctets};
-ghost use Rattle.bcder.specs.calls.ReadIdentifiers.{HoldIdentifier, IsSame, NoIdentifier};
+ghost use Rattle.bcder.specs.calls.Readers.{HoldIdentifier, IsSame};
 ghost use Rattle.bcder.specs.calls.Views.{MovedOctets};
 
 use super::super::Primitive;
@@ -18,7 +19,7 @@ impl<'a, S: Source> Primitive<'a, S> {
     #[inline(always)]
     pub(crate) fn take_identifier(&mut self, alloc: Global) -> Result<Bytes, DecodeError<S::Error>>
         ensures moves { MovedOctets S.stream self }
-        ensures read { ReadBy S.stream self (λ w b. (b ≡ w) × IsComplete w) NoIdentifier result }
+        ensures read { ReadBy S.stream self (λ w b. (b ≡ w) × IsComplete w) (AreNot IsComplete) result }
     {
         let len = match self.request_all() {
             Ok(len) => len,

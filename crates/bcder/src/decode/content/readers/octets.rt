@@ -1,6 +1,6 @@
 //! Taking contents octets one by one, for readers that users write.
-ghost use Rattle.bcder.specs.calls.OctetTakes.{SkippedOctets, TookNextOctet, TookOctet};
-ghost use Rattle.bcder.specs.calls.Views.{MovedOctets};
+ghost use Rattle.bcder.specs.calls.Readers.{SkipsOctets, TakesNextOctet, TakesOctet};
+ghost use Rattle.bcder.specs.calls.Views.{MovedOctets, of_primitive};
 
 use super::super::Primitive;
 use crate::decode::error::DecodeError;
@@ -16,7 +16,8 @@ impl<'a, S: Source> Primitive<'a, S> {
     /// octet is then taken.
     pub fn take_u8(&mut self) -> Result<u8, DecodeError<S::Error>>
         ensures moves { MovedOctets S.stream self }
-        ensures took { TookOctet S.stream self result }
+        ensures took { TakesOctet (of_primitive S.stream self.old) result
+            (of_primitive S.stream self.new) }
     {
         self.source.take_u8()
     }
@@ -28,7 +29,8 @@ impl<'a, S: Source> Primitive<'a, S> {
     /// Returns an error if the source fails. No octet is then taken.
     pub fn take_opt_u8(&mut self) -> Result<Option<u8>, S::Error>
         ensures moves { MovedOctets S.stream self }
-        ensures took { TookNextOctet S.stream self result }
+        ensures took { TakesNextOctet (of_primitive S.stream self.old) result
+            (of_primitive S.stream self.new) }
     {
         self.source.take_opt_u8()
     }
@@ -41,7 +43,8 @@ impl<'a, S: Source> Primitive<'a, S> {
     /// Returns an error if the source fails. No octet is then passed.
     pub fn skip(&mut self, len: usize) -> Result<usize, S::Error>
         ensures moves { MovedOctets S.stream self }
-        ensures passed { SkippedOctets S.stream self len result }
+        ensures passed { SkipsOctets len (of_primitive S.stream self.old) result
+            (of_primitive S.stream self.new) }
     {
         self.source.skip(len)
     }

@@ -1,6 +1,6 @@
 use Rattle.std.proofs.Common.{rules}
+use Rattle.bcder.specs.calls.Readers.{NoBits}
 use Rattle.bcder.specs.x690.BitString.{IsBitString}
-use Rattle.bcder.specs.calls.ReadBits.{NoBits}
 use Rattle.asn1.specs.Types.{IsLeaf}
 use Rattle.asn1.proofs.BitKeys.{no_bits}
 use Rattle.asn1.proofs.ContentReaders.{takes_content, reads_leaf}

@@ -1,7 +1,7 @@
 use Rattle.std.proofs.Common.{Any, subst}
 use Rattle.std.specs.declared.vec.Vec.{Vec}
 use Rattle.std.specs.declared.alloc.Global.{Global}
-use Rattle.bcder.specs.calls.Joined.{EachOf, Joined}
+use Rattle.bcder.specs.calls.Meaning.{EachOf, Joined}
 use Rattle.bcder.specs.calls.Encoders.{SizeOfValues}
 use Rattle.bcder.specs.calls.Meaning.{ValueMeans, constructed_meaning}
 use Rattle.asn1.proofs.written.lists.SequenceOfEncode.encoded_len_as.Goals as goal

@@ -1,5 +1,5 @@
 use Rattle.std.proofs.Common.{subst, List, Any, inl}
-use Rattle.bcder.specs.calls.Joined.{EachOf}
+use Rattle.bcder.specs.calls.Meaning.{EachOf}
 use Rattle.bcder.specs.calls.Encoders.{RefusesBy}
 use Rattle.asn1.proofs.written.lists.VecEncodeFields.len_fields.Goals as goal
 

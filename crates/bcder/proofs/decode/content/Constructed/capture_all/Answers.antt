@@ -1,6 +1,7 @@
 use Rattle.std.proofs.Common.{rules}
 use Rattle.bcder.specs.calls.Capturing.{of_captured}
-use Rattle.bcder.specs.calls.CapturingValues.{CapturesValues, HasOthers, HasValuesOrDeep, MetDeep, PassesToEnd}
+use Rattle.bcder.specs.calls.Capturing.{CapturesValues, HasOthers, HasValuesOrDeep}
+use Rattle.bcder.specs.steps.CaptureSteps.{MetDeep, PassesToEnd}
 use Rattle.bcder.specs.calls.Views.{of_constructed}
 use Rattle.bcder.specs.laws.Moved.{untouched_is_moved}
 use Rattle.bcder.proofs.SameBorrow.{constructed_form}

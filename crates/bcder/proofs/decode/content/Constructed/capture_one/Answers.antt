@@ -1,6 +1,7 @@
 use Rattle.std.proofs.Common.{rules}
 use Rattle.bcder.specs.calls.Capturing.{of_captured}
-use Rattle.bcder.specs.calls.CapturingValues.{BeginsDeep, HasValueOrDeep, CapturesValue}
+use Rattle.bcder.specs.calls.Capturing.{BeginsDeep}
+use Rattle.bcder.specs.calls.Capturing.{HasValueOrDeep, CapturesValue}
 use Rattle.bcder.specs.calls.Walking.{HasNoValue, PassesValue}
 use Rattle.bcder.specs.calls.Views.{of_constructed}
 use Rattle.bcder.proofs.CapturingValues.{no_value_of, value_usable, one_deep, one_kept, holds_value, captures_by}

@@ -1,7 +1,8 @@
 use Rattle.std.proofs.Common.{◌≡◌, ◌∙◌, refl, ap, arith, rules, sym, subst, take}
 use Rattle.bcder.specs.declared.length.Length.TheVariants.{Definite}
 use Rattle.bcder.specs.declared.decode.violation.Violation.TheVariants as violation
-use Rattle.bcder.specs.calls.Content.{FitsOwed, Advances, Moves, Enters}
+use Rattle.bcder.specs.calls.Content.{FitsOwed, Moves}
+use Rattle.bcder.specs.steps.Entering.{Advances, Enters}
 use Rattle.bcder.specs.steps.Peek.{header_of, len_of}
 use Rattle.bcder.specs.calls.Views.{of_constructed}
 use Rattle.bcder.proofs.Moving.{moves_failed, open_not_ended}

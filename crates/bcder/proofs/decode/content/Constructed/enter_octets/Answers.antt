@@ -1,5 +1,5 @@
 use Rattle.std.proofs.Common.{refl, subst, inl}
-use Rattle.bcder.specs.calls.Content.{Enters}
+use Rattle.bcder.specs.steps.Entering.{Enters}
 use Rattle.bcder.specs.steps.Peek.{header_of}
 use Rattle.bcder.specs.calls.Views.{of_constructed}
 use Rattle.bcder.proofs.Entering.{if_nothing}

@@ -1,6 +1,6 @@
 use Rattle.std.proofs.Common.{refl, inl, rules}
 use Rattle.bcder.specs.steps.StopCause.{stop_cause}
-use Rattle.bcder.specs.calls.Refusals.{failed, source}
+use Rattle.bcder.specs.calls.Content.{failed, source}
 use Rattle.bcder.specs.calls.Views.{of_constructed}
 use Rattle.bcder.specs.laws.Moved.{moved_twice_is_moved}
 use Rattle.bcder.proofs.Ahead.{ahead}

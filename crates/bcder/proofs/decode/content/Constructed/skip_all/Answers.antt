@@ -1,14 +1,14 @@
 use Rattle.std.proofs.Common.{◌∙◌, refl, arith}
 use Rattle.bcder.specs.calls.Cause.{cause_of}
 use Rattle.bcder.specs.calls.Content.{any}
-use Rattle.bcder.specs.calls.Takes.{HasNone}
+use Rattle.bcder.specs.calls.Calls.{HasNone}
 use Rattle.bcder.specs.calls.Walking.{PassesValue}
 use Rattle.bcder.specs.calls.Views.{of_constructed}
 use Rattle.bcder.specs.laws.Moved.{moved_carries, untouched_is_moved, moved_twice_is_moved}
 use Rattle.bcder.proofs.SameBorrow.{within_constructed, constructed_form}
-use Rattle.bcder.specs.calls.Skipping.{RefusesSkipAll}
+use Rattle.bcder.specs.calls.Walking.{RefusesSkipAll}
 use Rattle.bcder.proofs.SkipCalls.{loop_refused}
-use Rattle.bcder.proofs.WalkCalls.{some_value, none_value}
+use Rattle.bcder.proofs.WalkCalls.{value_there, none_there}
 use Rattle.bcder.proofs.WalkSteps.{all_refused, walks_refl, walks_value, walks_all, value_shorter}
 use Rattle.bcder.proofs.decode.content.Constructed.skip_all.Goals as goal
 
@@ -28,8 +28,8 @@ returns-in_err-skip_one-clause-skipped g c =
     let j = of_constructed g.S.Source.stream c.loop.self in
     let k = of_constructed g.S.Source.stream c.skip_one.new.self in
     all_refused (RefusesSkipAll cause_of) i k c.from_residual.result _ c.from_residual.ensures.1
-    (loop_refused cause_of _ i j k (constructed_form g.S.Source.stream c.args.self.now) c.loop.invariant.walks c.in_err-skip_one.ensures.skipped.refused)
-    c.in_err-skip_one.ensures.skipped.failed
+    (loop_refused cause_of _ i j k (constructed_form g.S.Source.stream c.args.self.now) c.loop.invariant.walks c.in_err-skip_one.ensures.skipped.refused.1)
+    c.in_err-skip_one.ensures.skipped.refused.0
     (c.skip_one.ensures.skipped.mode ∙ c.loop.invariant.walks.mode)
     (c.skip_one.ensures.skipped.marked ∙ c.loop.invariant.walks.marked)
 
@@ -37,7 +37,7 @@ pub loop-smaller : goal.loop-smaller
 loop-smaller g c =
     let j = of_constructed g.S.Source.stream c.loop.self in
     let k = of_constructed g.S.Source.stream c.skip_one.new.self in
-    let h = value_shorter j k (some_value (PassesValue j k) _ c.if-is_some.ensures c.in_ok-skip_one.ensures.skipped.value) in omega (arith, h)
+    let h = value_shorter j k (value_there (HasNone any j k) (PassesValue j k) _ c.if-is_some.ensures c.in_ok-skip_one.ensures.skipped.value) in omega (arith, h)
 
 pub loop-preserved : goal.loop-preserved
 loop-preserved g c =
@@ -48,7 +48,7 @@ loop-preserved g c =
       walks =
           walks_value i j k (within_constructed g.S.Source.stream g.met.S.Source.sound c.loop.self) c.loop.invariant.walks
           (c.skip_one.ensures.moves j (untouched_is_moved j)) c.skip_one.ensures.skipped.mode c.skip_one.ensures.skipped.marked
-          (some_value (PassesValue j k) _ c.if-is_some.ensures c.in_ok-skip_one.ensures.skipped.value);
+          (value_there (HasNone any j k) (PassesValue j k) _ c.if-is_some.ensures c.in_ok-skip_one.ensures.skipped.value);
       no_fault = c.in_ok-skip_one.ensures.skipped.no_fault ∙ c.loop.invariant.no_fault;
     }
 
@@ -64,13 +64,11 @@ returns-clause-skipped g c =
     let i = of_constructed g.S.Source.stream c.args.self.now in
     let j = of_constructed g.S.Source.stream c.loop.self in
     let k = of_constructed g.S.Source.stream c.skip_one.new.self in
-    let n = none_value (HasNone any j k) _ c.if-is_some.ensures c.in_ok-skip_one.ensures.skipped.none in
+    let n = none_there (HasNone any j k) (PassesValue j k) _ c.if-is_some.ensures c.in_ok-skip_one.ensures.skipped.value in
     record {
-      all = walks_all i j k (constructed_form g.S.Source.stream c.args.self.now) c.loop.invariant.walks n.missing.0;
-      done = n.missing.1;
+      value = (walks_all i j k (constructed_form g.S.Source.stream c.args.self.now) c.loop.invariant.walks n.missing.0, n.missing.1);
       no_fault = c.in_ok-skip_one.ensures.skipped.no_fault ∙ c.loop.invariant.no_fault;
       refused = tt;
-      failed = tt;
       mode = c.skip_one.ensures.skipped.mode ∙ c.loop.invariant.walks.mode;
       marked = c.skip_one.ensures.skipped.marked ∙ c.loop.invariant.walks.marked;
     }

@@ -1,7 +1,7 @@
 use Rattle.std.proofs.Common.{refl, sym, ◌∙◌}
 use Rattle.std.specs.Prelude.{Ok, Err, Some, None}
 use Rattle.bcder.specs.calls.Cause.{cause_of}
-use Rattle.bcder.specs.calls.Refusals.{source}
+use Rattle.bcder.specs.calls.Content.{source}
 use Rattle.bcder.specs.calls.Views.{of_constructed}
 use Rattle.bcder.specs.laws.Moved.{moved_twice_is_moved}
 use Rattle.bcder.proofs.BorrowedContent.{moves_behind, skipped_behind}
@@ -61,7 +61,7 @@ unfolding of_constructed
 returns-in-Err-skip_stacked-clause-moves g c =
     let w = looked_skipped cause_of _ _ _ (Err _)
     (c.in-Ok-false.ensures.passed.same c.in-Ok-false.field-0-test) c.in-Ok-false.ensures.passed.no_fault c.in-Err-skip_stacked.ensures.skipped in
-    moves_behind c.args.self.now.source.ghost_name _ _ _ refl refl refl w.failed refl refl refl
+    moves_behind c.args.self.now.source.ghost_name _ _ _ refl refl refl w.refused.0 refl refl refl
     (moved_twice_is_moved _ _ _ c.pass_shallow.ensures.moves c.skip_stacked.ensures.moves) w.mode w.marked
 
 pub returns-in-Err-skip_stacked-clause-skipped : goal.returns-in-Err-skip_stacked-clause-skipped
@@ -69,7 +69,7 @@ unfolding of_constructed
 returns-in-Err-skip_stacked-clause-skipped g c =
     let w = looked_skipped cause_of _ _ _ (Err _)
     (c.in-Ok-false.ensures.passed.same c.in-Ok-false.field-0-test) c.in-Ok-false.ensures.passed.no_fault c.in-Err-skip_stacked.ensures.skipped in
-    skipped_behind c.args.self.now.source.ghost_name _ _ _ refl refl refl w.failed refl refl refl
+    skipped_behind c.args.self.now.source.ghost_name _ _ _ refl refl refl w.refused.0 refl refl refl
     (moved_twice_is_moved _ _ _ c.pass_shallow.ensures.moves c.skip_stacked.ensures.moves) w.mode w.marked cause_of (Err c.in-Err-skip_stacked.error) w
 
 pub returns-in-Err-clause-moves : goal.returns-in-Err-clause-moves
@@ -84,5 +84,5 @@ returns-in-Err-clause-skipped g c =
     let p = c.in-Err.ensures.passed in
     let w = refused_at_once cause_of _ _ (of_constructed g.S.Source.stream c.pass_shallow.new.self) c.stop_error.result
     (source (c.stop_error.ensures ∙ p.fault.0) p.fault.1) p.failed p.mode p.marked in
-    skipped_behind c.args.self.now.source.ghost_name _ _ _ refl refl refl w.failed refl refl refl c.pass_shallow.ensures.moves w.mode w.marked cause_of
+    skipped_behind c.args.self.now.source.ghost_name _ _ _ refl refl refl w.refused.0 refl refl refl c.pass_shallow.ensures.moves w.mode w.marked cause_of
     (Err c.stop_error.result) w

@@ -1,5 +1,5 @@
 use Rattle.std.proofs.Common.{◌≡◌, refl, ap, rules, ◌||◌}
-use Rattle.bcder.specs.calls.Calls.{popped}
+use Rattle.bcder.specs.steps.Inside.{popped}
 use Rattle.bcder.specs.calls.Cause.{cause_of}
 use Rattle.bcder.specs.calls.Content.{Reading, values}
 use Rattle.bcder.specs.steps.Inside.{limit_outside, refused, taken}

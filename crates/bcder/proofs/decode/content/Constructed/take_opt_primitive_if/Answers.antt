@@ -2,7 +2,8 @@ use Rattle.std.proofs.Common.{true, ap, sym, subst}
 use Rattle.std.specs.Prelude.{Some}
 use Rattle.bcder.specs.declared.decode.header.Header.{Header as CodeHeader}
 use Rattle.bcder.specs.steps.StopCause.{stop_cause}
-use Rattle.bcder.specs.calls.Content.{tagged, Enters}
+use Rattle.bcder.specs.calls.Content.{tagged}
+use Rattle.bcder.specs.steps.Entering.{Enters}
 use Rattle.bcder.specs.steps.Peek.{header_of}
 use Rattle.bcder.specs.calls.Views.{of_constructed, of_primitive}
 use Rattle.bcder.specs.laws.Moved.{moved_carries}

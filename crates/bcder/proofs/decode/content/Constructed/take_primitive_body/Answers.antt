@@ -1,6 +1,6 @@
 use Rattle.std.proofs.Common.{◌≡◌, true, refl, ap, sym, subst, rules, ◌||◌}
 use Rattle.std.specs.Prelude.{Some}
-use Rattle.bcder.specs.calls.Calls.{popped}
+use Rattle.bcder.specs.steps.Inside.{popped}
 use Rattle.bcder.specs.calls.Cause.{cause_of}
 use Rattle.bcder.specs.calls.Content.{Reading, values, FitsOwed}
 use Rattle.bcder.specs.steps.Inside.{refused, taken}

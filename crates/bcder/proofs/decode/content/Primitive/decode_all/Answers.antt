@@ -1,6 +1,6 @@
 use Rattle.std.proofs.Common.{refl, ap, rules}
 use Rattle.bcder.specs.calls.Content.{values}
-use Rattle.bcder.specs.calls.DecodingAll.{IsWithin}
+use Rattle.bcder.specs.calls.Decoding.{IsWithin}
 use Rattle.bcder.specs.calls.Views.{of_constructed, of_primitive, limited_stream}
 use Rattle.bcder.specs.laws.Moved.{moved_carries}
 use Rattle.bcder.proofs.Decoding.{moves_within, values_within, decoded_within, refused_within}

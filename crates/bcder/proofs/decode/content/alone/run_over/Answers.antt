@@ -1,7 +1,7 @@
 use Rattle.std.proofs.Common.{◌∙◌, refl, ap, subst, rules}
 use Rattle.std.specs.Prelude.{Some}
 use Rattle.bcder.specs.declared.decode.content.State.TheVariants.{Open}
-use Rattle.bcder.specs.calls.Alone.{by_closure, left_octets}
+use Rattle.bcder.specs.calls.Decoding.{by_closure, left_octets}
 use Rattle.bcder.specs.calls.Calls.{IsOver}
 use Rattle.bcder.specs.calls.Content.{Octets}
 use Rattle.bcder.specs.calls.Stream.{limited}

@@ -1,12 +1,12 @@
 use Rattle.std.proofs.Common.{◌∙◌, arith, refl}
 use Rattle.bcder.specs.calls.Content.{any}
-use Rattle.bcder.specs.calls.Takes.{HasNone}
+use Rattle.bcder.specs.calls.Calls.{HasNone}
 use Rattle.bcder.specs.calls.Walking.{PassesValue}
 use Rattle.bcder.specs.calls.Views.{of_constructed}
 use Rattle.bcder.specs.laws.Moved.{untouched_is_moved, moved_twice_is_moved, moved_carries}
 use Rattle.bcder.proofs.SameBorrow.{within_constructed, constructed_form}
 use Rattle.bcder.proofs.WalkSteps.{walks_refl, walks_value, walks_all, value_shorter}
-use Rattle.bcder.proofs.WalkCalls.{some_value, none_value}
+use Rattle.bcder.proofs.WalkCalls.{value_there, none_there}
 use Rattle.bcder.proofs.CapturingValues.{loop_refused_one, pass_refused}
 use Rattle.bcder.proofs.decode.content.capture_values.pass_all.Goals as goal
 
@@ -21,7 +21,7 @@ loop-preserved g c =
     let p = c.in_ok-skip_one.ensures.skipped in
     record {
       walks = walks_value i j k (within_constructed g.S.Source.stream g.met.S.Source.sound c.loop.cons) c.loop.invariant.walks
-          (c.skip_one.ensures.moves j (untouched_is_moved j)) p.mode p.marked (some_value (PassesValue j k) _ c.if-is_some.ensures p.value);
+          (c.skip_one.ensures.moves j (untouched_is_moved j)) p.mode p.marked (value_there (HasNone any j k) (PassesValue j k) _ c.if-is_some.ensures p.value);
       no_fault = p.no_fault ∙ c.loop.invariant.no_fault;
     }
 
@@ -29,7 +29,7 @@ pub loop-smaller : goal.loop-smaller
 loop-smaller g c =
     let j = of_constructed g.S.Source.stream c.loop.cons in
     let k = of_constructed g.S.Source.stream c.skip_one.new.self in
-    let h = value_shorter j k (some_value (PassesValue j k) _ c.if-is_some.ensures c.in_ok-skip_one.ensures.skipped.value) in omega (arith, h)
+    let h = value_shorter j k (value_there (HasNone any j k) (PassesValue j k) _ c.if-is_some.ensures c.in_ok-skip_one.ensures.skipped.value) in omega (arith, h)
 
 pub returns-in_err-skip_one-clause-moves : goal.returns-in_err-skip_one-clause-moves
 returns-in_err-skip_one-clause-moves g c =
@@ -42,7 +42,7 @@ returns-in_err-skip_one-clause-passed g c =
     let j = of_constructed g.S.Source.stream c.loop.cons in
     let k = of_constructed g.S.Source.stream c.skip_one.new.self in
     pass_refused i k c.from_residual.result _ c.from_residual.ensures.1 (loop_refused_one _ i j k (constructed_form g.S.Source.stream c.args.cons.now)
-    c.loop.invariant.walks c.in_err-skip_one.ensures.skipped.refused) (c.in_err-skip_one.ensures.skipped.marked ∙ c.loop.invariant.walks.marked)
+    c.loop.invariant.walks c.in_err-skip_one.ensures.skipped.refused.1) (c.in_err-skip_one.ensures.skipped.marked ∙ c.loop.invariant.walks.marked)
 
 pub returns-clause-moves : goal.returns-clause-moves
 returns-clause-moves g c =
@@ -55,7 +55,7 @@ returns-clause-passed g c =
     let j = of_constructed g.S.Source.stream c.loop.cons in
     let k = of_constructed g.S.Source.stream c.skip_one.new.self in
     let p = c.in_ok-skip_one.ensures.skipped in
-    let n = none_value (HasNone any j k) _ c.if-is_some.ensures p.none in
+    let n = none_there (HasNone any j k) (PassesValue j k) _ c.if-is_some.ensures p.value in
     record {
       passed = record {
         done = n.missing.1;

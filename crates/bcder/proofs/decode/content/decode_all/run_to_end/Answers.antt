@@ -1,5 +1,5 @@
 use Rattle.std.proofs.Common.{refl}
-use Rattle.bcder.specs.calls.DecodingAll.{by_closure, by_rest}
+use Rattle.bcder.specs.calls.Decoding.{by_closure, by_rest}
 use Rattle.bcder.specs.calls.Views.{of_constructed}
 use Rattle.bcder.specs.laws.Moved.{moved_twice_is_moved}
 use Rattle.bcder.proofs.Entering.{no_fewer, looked_moves}

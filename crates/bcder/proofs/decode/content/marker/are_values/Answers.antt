@@ -12,7 +12,7 @@ pub returns-in-Ok : goal.returns-in-Ok
 unfolding of_constructed
 returns-in-Ok c = (
   λ t. values_found _ c.args.mode c.args.octets.now c.over-cons.ensures.mode (ap values c.over-cons.ensures.kind) (search rules)
-      (c.in-Ok.ensures.skipped.all c.over-cons.ensures.state),
+      (c.in-Ok.ensures.skipped.value.0 c.over-cons.ensures.state),
   λ v. refl,
 )
 

@@ -1,5 +1,5 @@
 use Rattle.std.proofs.Common.{ℕ, ◌<◌, ◌≤◌}
-use Rattle.bcder.specs.calls.Capturing.{EndsBy}
+use Rattle.bcder.specs.steps.CaptureSteps.{EndsBy}
 use Rattle.bcder.proofs.decode.content.marker.len_before_marker.Given as goal
 
 abbrev pub invariant-loop-size : goal.invariant-loop-size

@@ -2,7 +2,7 @@ use Rattle.std.proofs.Common.{◌≡◌, ◌+◌, List, ◌∷◌, length}
 use Rattle.bcder.specs.declared.decode.content.State.TheVariants.{Open}
 use Rattle.bcder.specs.steps.Peek.{header_of}
 use Rattle.bcder.specs.x690.Preorder.{Heading}
-use Rattle.bcder.specs.calls.Skipping.{Called}
+use Rattle.bcder.specs.calls.Walking.{Called}
 use Rattle.bcder.specs.steps.Stacked.{IsCounted, entries, heading, source_of, limit_in, TopIs, IsUnderWay}
 use Rattle.bcder.proofs.decode.content.skip.skip_content.Given as goal
 

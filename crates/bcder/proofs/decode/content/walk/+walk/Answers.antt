@@ -2,9 +2,9 @@ use Rattle.std.proofs.Common.{rules, false, ◌≡◌, ◌∙◌, ◌+◌, ◌�
 use Rattle.std.specs.Prelude.{Ok, Some}
 use Rattle.bcder.specs.declared.length.Length.TheVariants.{Definite, Indefinite}
 use Rattle.bcder.specs.steps.StopCause.{stop_cause}
-use Rattle.bcder.specs.calls.Content.{any, FitsOwed, Octets, values}
-use Rattle.bcder.specs.calls.Takes.{HasNone}
-use Rattle.bcder.specs.calls.Refusals.{otherwise}
+use Rattle.bcder.specs.calls.Content.{any, FitsOwed, IsDone, Octets, values}
+use Rattle.bcder.specs.calls.Calls.{HasNone}
+use Rattle.bcder.specs.calls.Content.{otherwise}
 use Rattle.bcder.specs.steps.Peek.{is_constructed, len_of, header_of}
 use Rattle.bcder.specs.calls.Walking.{PassesValue, RefusesValues}
 use Rattle.bcder.specs.steps.WalkSteps.{itself, walked}
@@ -15,8 +15,8 @@ use Rattle.bcder.proofs.Refusing.{if_err}
 use Rattle.bcder.proofs.Inner.{takes_values, takes_marked}
 use Rattle.bcder.proofs.Taking.{taken_value, taken_moves, refused_front, refused_moves}
 use Rattle.bcder.proofs.ContentSteps.{step_refused, next_refused, entered_shorter, stop_reason, or_none, ran_values, skips}
-use Rattle.bcder.proofs.WalkSteps.{walks_refl, walks_value, walks_refused, all_refused, value_shorter}
-use Rattle.bcder.proofs.WalkCalls.{walks_one, some_value, none_value}
+use Rattle.bcder.proofs.WalkSteps.{walks_refl, walks_value, walks_refused, stopped_at_error, value_shorter}
+use Rattle.bcder.proofs.WalkCalls.{walks_one, value_there, none_there}
 use Rattle.bcder.proofs.decode.content.walk.+walk.Goals as goal
 
 pub step-pass_content-requires : goal.step-pass_content-requires
@@ -45,10 +45,8 @@ step-returns-in-Ok-clause-passed g t c =
           (taken_value (of_constructed g.S.Source.stream c.args.cons.now) (of_constructed g.S.Source.stream c.next_header.new.self)
           (of_constructed g.S.Source.stream c.pass_content.new.cons) (header_of c.in-Ok-Some.header) any refl e stop_cause itself
           (walked stop_cause) _ refl refl refl _ c.in-Ok.ensures.taken);
-      none = tt;
       no_fault = c.in-Ok.ensures.no_fault ∙ c.in-Ok-Some.ensures.no_fault;
       refused = tt;
-      failed = tt;
       mode = c.pass_content.ensures.mode ∙ c.next_header.ensures.mode;
       marked = c.pass_content.ensures.marked ∙ c.next_header.ensures.marked;
     }
@@ -66,15 +64,15 @@ step-returns-in-Err-pass_content-clause-passed g t c =
     let e = (rw c.in-Ok-Some.field-0-is at c.in-Ok-Some.ensures.entered).1 in
     record {
       value = tt;
-      none = tt;
       no_fault = tt;
-      refused =
-          step_refused stop_cause (of_constructed g.S.Source.stream c.args.cons.now) (of_constructed g.S.Source.stream c.pass_content.new.cons) _
-          (within_constructed g.S.Source.stream g.met.S.Source.sound c.args.cons.now)
-          (otherwise (refused_front (of_constructed g.S.Source.stream c.args.cons.now) (of_constructed g.S.Source.stream c.next_header.new.self)
-          (of_constructed g.S.Source.stream c.pass_content.new.cons) (header_of c.in-Ok-Some.header) any refl e stop_cause itself
-          (walked stop_cause) _ c.in-Err-pass_content.ensures.taken));
-      failed = c.pass_content.ensures.state ∙ e.opened;
+      refused = (
+        c.pass_content.ensures.state ∙ e.opened,
+        step_refused stop_cause (of_constructed g.S.Source.stream c.args.cons.now) (of_constructed g.S.Source.stream c.pass_content.new.cons) _
+            (within_constructed g.S.Source.stream g.met.S.Source.sound c.args.cons.now)
+            (otherwise (refused_front (of_constructed g.S.Source.stream c.args.cons.now) (of_constructed g.S.Source.stream c.next_header.new.self)
+            (of_constructed g.S.Source.stream c.pass_content.new.cons) (header_of c.in-Ok-Some.header) any refl e stop_cause itself
+            (walked stop_cause) _ c.in-Err-pass_content.ensures.taken)),
+      );
       mode = c.pass_content.ensures.mode ∙ c.next_header.ensures.mode;
       marked = c.pass_content.ensures.marked ∙ c.next_header.ensures.marked;
     }
@@ -83,11 +81,12 @@ pub step-returns-in-Err-clause-passed : goal.step-returns-in-Err-clause-passed
 unfolding of_constructed
 step-returns-in-Err-clause-passed g t c = record {
   value = tt;
-  none = tt;
   no_fault = tt;
-  refused = next_refused stop_cause (of_constructed g.S.Source.stream c.args.cons.now) (of_constructed g.S.Source.stream c.next_header.new.self) _
-      (within_constructed g.S.Source.stream g.met.S.Source.sound c.args.cons.now) c.in-Err.ensures.refused;
-  failed = c.in-Err.ensures.failed;
+  refused = (
+    c.in-Err.ensures.failed,
+    next_refused stop_cause (of_constructed g.S.Source.stream c.args.cons.now) (of_constructed g.S.Source.stream c.next_header.new.self) _
+        (within_constructed g.S.Source.stream g.met.S.Source.sound c.args.cons.now) c.in-Err.ensures.refused,
+  );
   mode = c.next_header.ensures.mode;
   marked = c.next_header.ensures.marked;
 }
@@ -142,11 +141,11 @@ walk_over-returns-in_err-step-clause-ran g t c u =
     let name = moves_constructed_name g.S.Source.stream c.loop.cons c.step.new.cons c.step.ensures.moves in
     let r = walks_refused stop_cause _ _ j k
     (λ e. (let x : values c.args.kind ≡ Octets = sym (ap values c.over-cons.ensures.kind) ∙ e in cc))
-    c.loop.invariant.walks c.in_err-step.ensures.passed.refused in
-    let p = all_refused (RefusesValues stop_cause) _ k c.from_residual.result _ c.from_residual.ensures.1 r c.in_err-step.ensures.passed.failed
-    (c.in_err-step.ensures.passed.mode ∙ c.loop.invariant.walks.mode) (c.in_err-step.ensures.passed.marked ∙ c.loop.invariant.walks.marked) in
+    c.loop.invariant.walks c.in_err-step.ensures.passed.refused.1 in
+    let p = stopped_at_error (RefusesValues stop_cause) _ k c.from_residual.result _ c.from_residual.ensures.1 r (IsDone k) in
     ran_values stop_cause _ k c.from_residual.result
-    (moved_twice_is_moved _ j k c.loop.invariant.walks.moves c.in_err-step.ensures.moves) p.marked p.done p.refused
+    (moved_twice_is_moved _ j k c.loop.invariant.walks.moves c.in_err-step.ensures.moves)
+    (c.in_err-step.ensures.passed.marked ∙ c.loop.invariant.walks.marked) p.0 p.1
     (limited_stream g.S.Source.stream c.args.source.now) _ c.args.source.now.limit _ (values c.args.kind) c.args.mode u
     (ap (limited_stream g.S.Source.stream) c.over-cons.ensures.source) (ap (λ s. s.limit) c.over-cons.ensures.source) (ap values c.over-cons.ensures.kind)
     c.over-cons.ensures.state c.over-cons.ensures.mode c.over-cons.ensures.marked (search rules) (search rules)
@@ -155,7 +154,7 @@ pub walk_over-loop-smaller : goal.walk_over-loop-smaller
 walk_over-loop-smaller g t c =
     let j = of_constructed g.S.Source.stream c.loop.cons in
     let k = of_constructed g.S.Source.stream c.step.new.cons in
-    let h = value_shorter j k (some_value (PassesValue j k) _ c.if-is_some.ensures c.in_ok-step.ensures.passed.value) in omega (arith, h)
+    let h = value_shorter j k (value_there (HasNone any j k) (PassesValue j k) _ c.if-is_some.ensures c.in_ok-step.ensures.passed.value) in omega (arith, h)
 
 pub walk_over-loop-preserved : goal.walk_over-loop-preserved
 walk_over-loop-preserved g t c =
@@ -165,7 +164,7 @@ walk_over-loop-preserved g t c =
       walks =
           walks_value _ j k (within_constructed g.S.Source.stream g.met.S.Source.sound c.loop.cons) c.loop.invariant.walks c.in_ok-step.ensures.moves
           c.in_ok-step.ensures.passed.mode c.in_ok-step.ensures.passed.marked
-          (some_value (PassesValue j k) _ c.if-is_some.ensures c.in_ok-step.ensures.passed.value);
+          (value_there (HasNone any j k) (PassesValue j k) _ c.if-is_some.ensures c.in_ok-step.ensures.passed.value);
       no_fault = c.in_ok-step.ensures.passed.no_fault ∙ c.loop.invariant.no_fault;
       name = moves_constructed_name g.S.Source.stream c.loop.cons c.step.new.cons c.step.ensures.moves ∙ c.loop.invariant.name;
     }
@@ -178,7 +177,7 @@ walk_over-returns-clause-ran g t c u =
     let name = moves_constructed_name g.S.Source.stream c.loop.cons c.step.new.cons c.step.ensures.moves in
     ran_values stop_cause _ k _ (moved_twice_is_moved _ j k c.loop.invariant.walks.moves c.in_ok-step.ensures.moves)
     (c.in_ok-step.ensures.passed.marked ∙ c.loop.invariant.walks.marked)
-    (none_value (HasNone any j k) _ c.if-is_some.ensures c.in_ok-step.ensures.passed.none).missing.1 tt
+    (none_there (HasNone any j k) (PassesValue j k) _ c.if-is_some.ensures c.in_ok-step.ensures.passed.value).missing.1 tt
     (limited_stream g.S.Source.stream c.args.source.now) _ c.args.source.now.limit _ (values c.args.kind) c.args.mode u
     (ap (limited_stream g.S.Source.stream) c.over-cons.ensures.source) (ap (λ s. s.limit) c.over-cons.ensures.source) (ap values c.over-cons.ensures.kind)
     c.over-cons.ensures.state c.over-cons.ensures.mode c.over-cons.ensures.marked (search rules) (search rules)

@@ -3,7 +3,7 @@ use Rattle.std.specs.Prelude.{Ok, Err}
 use Rattle.bcder.specs.calls.Cause.{cause_of}
 use Rattle.bcder.specs.steps.StopCause.{stop_cause}
 use Rattle.bcder.specs.calls.Views.{of_constructed}
-use Rattle.bcder.specs.calls.Refusals.{source}
+use Rattle.bcder.specs.calls.Content.{source}
 use Rattle.bcder.specs.laws.Moved.{moved_carries, moved_twice_is_moved}
 use Rattle.bcder.proofs.Passing.{looked_next}
 use Rattle.bcder.proofs.Stopping.{walk_stopped}
@@ -20,7 +20,7 @@ returns-in-Ok-clause-passed g c =
     let p = looked_next stop_cause (of_constructed g.S.Source.stream c.args.cons.now) (of_constructed g.S.Source.stream c.pass_at_hand.new.self)
     (of_constructed g.S.Source.stream c.walk_copy.new.cons)
     (c.in-Ok-false.ensures.passed.same c.in-Ok-false.field-0-test) c.in-Ok-false.ensures.passed.no_fault (Ok c.in-Ok.passed) c.in-Ok.ensures.passed in
-    record { value = p.value; none = p.none; no_fault = p.no_fault; refused = tt; failed = tt; mode = p.mode; marked = p.marked }
+    record { value = p.value; no_fault = p.no_fault; refused = tt; mode = p.mode; marked = p.marked }
 
 pub returns-in-Err-walk_copy-clause-moves : goal.returns-in-Err-walk_copy-clause-moves
 returns-in-Err-walk_copy-clause-moves g c = moved_carries _ _ (moved_twice_is_moved _ _ _ c.pass_at_hand.ensures.moves c.walk_copy.ensures.moves)
@@ -32,10 +32,8 @@ returns-in-Err-walk_copy-clause-passed g c =
     c.in-Ok-false.ensures.passed.no_fault (Err c.in-Err-walk_copy.stop) c.in-Err-walk_copy.ensures.passed in
     record {
       value = tt;
-      none = tt;
       no_fault = tt;
-      refused = walk_stopped stop_cause cause_of _ _ c.stop_error.ensures _ _ p.refused;
-      failed = p.failed;
+      refused = (p.refused.0, walk_stopped stop_cause cause_of _ _ c.stop_error.ensures _ _ p.refused.1);
       mode = p.mode;
       marked = p.marked;
     }
@@ -48,10 +46,8 @@ returns-in-Err-clause-passed g c =
     let p = c.in-Err.ensures.passed in
     record {
       value = tt;
-      none = tt;
       no_fault = tt;
-      refused = source (c.stop_error-in-Err.ensures ∙ p.fault.0) p.fault.1;
-      failed = p.failed;
+      refused = (p.failed, source (c.stop_error-in-Err.ensures ∙ p.fault.0) p.fault.1);
       mode = p.mode;
       marked = p.marked;
     }

@@ -35,11 +35,11 @@ pub returns-in-Err-clause-moves : goal.returns-in-Err-clause-moves
 unfolding of_constructed
 returns-in-Err-clause-moves g c =
     let w = c.in-Err.ensures.passed in
-    moves_behind c.args.cons.now.source.ghost_name _ _ _ refl refl refl w.failed refl refl refl c.walk_any.ensures.moves w.mode w.marked
+    moves_behind c.args.cons.now.source.ghost_name _ _ _ refl refl refl w.refused.0 refl refl refl c.walk_any.ensures.moves w.mode w.marked
 
 pub returns-in-Err-clause-passed : goal.returns-in-Err-clause-passed
 unfolding of_constructed
 returns-in-Err-clause-passed g c =
     let w = c.in-Err.ensures.passed in
-    passed_behind c.args.cons.now.source.ghost_name _ _ _ refl refl refl w.failed refl refl refl c.walk_any.ensures.moves w.mode w.marked
+    passed_behind c.args.cons.now.source.ghost_name _ _ _ refl refl refl w.refused.0 refl refl refl c.walk_any.ensures.moves w.mode w.marked
     stop_cause (Err c.in-Err.stop) w

@@ -7,19 +7,23 @@ use Rattle.bcder.proofs.encode.primitive.plain.write_string.Goals as goal
 pub returns-then-fits_primitive : goal.returns-then-fits_primitive
 returns-then-fits_primitive g c =
     let o : AreOctets c.args.octets.now = λ i. omega (arith, c.type_inv.octets i) in
-    inl (
-      c.args.octets.now,
-      string_fits LongCerPrimitive c.args.mode c.args.octets.now o (sym c.fits_primitive.ensures ∙ c.if-fits_primitive.true),
-      c.write_all.ensures,
-    )
+    record {
+      went = inl (
+        c.args.octets.now,
+        string_fits LongCerPrimitive c.args.mode c.args.octets.now o (sym c.fits_primitive.ensures ∙ c.if-fits_primitive.true),
+        c.write_all.ensures,
+      );
+    }
 
 pub returns-else-fits_primitive : goal.returns-else-fits_primitive
 returns-else-fits_primitive g c =
     let o : AreOctets c.args.octets.now = λ i. omega (arith, c.type_inv.octets i) in
-    inr (
-      LongCerPrimitive,
-      refl,
-      refuses_string LongCerPrimitive c.args.mode c.args.octets.now (λ e. cc) o
-          (sym c.fits_primitive.ensures ∙ c.if-fits_primitive.false),
-      search rules,
-    )
+    record {
+      went = inr (
+        LongCerPrimitive,
+        refl,
+        refuses_string LongCerPrimitive c.args.mode c.args.octets.now (λ e. cc) o
+            (sym c.fits_primitive.ensures ∙ c.if-fits_primitive.false),
+        search rules,
+      );
+    }

@@ -1,4 +1,4 @@
-use Rattle.bcder.specs.calls.Slices.{item_means}
+use Rattle.bcder.specs.laws.Composed.{item_means}
 use Rattle.bcder.proofs.Writing.{lacks_more}
 use Rattle.bcder.proofs.Noting.{nothing_left}
 use Rattle.bcder.proofs.encode.values.mapped.write_item.Goals as goal

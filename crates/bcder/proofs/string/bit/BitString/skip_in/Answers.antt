@@ -1,6 +1,6 @@
 use Rattle.std.proofs.Common.{rules}
 use Rattle.bcder.specs.x690.BitString.{bit_string_tag}
-use Rattle.bcder.specs.calls.ReadBits.{HoldBits}
+use Rattle.bcder.specs.calls.Readers.{HoldBits}
 use Rattle.bcder.specs.calls.Readers.{MeanNothing}
 use Rattle.bcder.specs.calls.Views.{of_constructed, of_primitive}
 use Rattle.bcder.proofs.SameBorrow.{within_constructed}

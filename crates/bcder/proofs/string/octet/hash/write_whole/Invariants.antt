@@ -1,6 +1,6 @@
 use Rattle.std.proofs.Common.{◌≡◌, length}
 use Rattle.std.specs.List.{fold}
-use Rattle.bcder.specs.calls.Blocks.{blocks}
+use Rattle.bcder.specs.calls.StringOctets.{blocks}
 use Rattle.bcder.proofs.string.octet.hash.write_whole.Given as goal
 
 -- with the octets that are left, the hasher is where all of them bring it

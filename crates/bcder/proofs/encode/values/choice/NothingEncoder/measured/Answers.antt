@@ -1,5 +1,5 @@
 use Rattle.std.proofs.Common.{refl}
-use Rattle.bcder.specs.calls.Joined.{nothing}
+use Rattle.bcder.specs.calls.Meaning.{nothing}
 use Rattle.bcder.proofs.encode.values.choice.NothingEncoder.measured.Goals as goal
 
 pub returns-clause-sized : goal.returns-clause-sized

@@ -1,8 +1,9 @@
 use Rattle.std.proofs.Common.{subst, sym, refl, inr, [], Ok}
 use Rattle.std.proofs.KnownBytes.{Appends-nil}
 use Rattle.bcder.specs.calls.Meaning.{Encoded}
-use Rattle.bcder.specs.calls.Joined.{EachOf}
-use Rattle.bcder.specs.calls.Iterated.{RunsMean, as_listed, none_left, to_second}
+use Rattle.bcder.specs.calls.Meaning.{EachOf}
+use Rattle.bcder.specs.calls.Iterated.{RunsMean}
+use Rattle.bcder.specs.laws.Composed.{as_listed, none_left, to_second}
 use Rattle.bcder.proofs.Writing.{halts, lacks_more, same_result}
 use Rattle.bcder.proofs.Joining.{WrittenSoFar, next_known, written_next, written_failed, written_done}
 use Rattle.bcder.proofs.Iterating.{next_of}

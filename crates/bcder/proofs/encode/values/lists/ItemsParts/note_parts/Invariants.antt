@@ -1,5 +1,5 @@
 use Rattle.std.proofs.Common.{drop}
-use Rattle.bcder.specs.calls.Joined.{EachOf}
+use Rattle.bcder.specs.calls.Meaning.{EachOf}
 use Rattle.bcder.specs.calls.Noted.{ReadsEach}
 use Rattle.bcder.proofs.Joining.{SumSoFar}
 use Rattle.bcder.proofs.Noting.{NotedSoFar}

@@ -1,7 +1,7 @@
 use Rattle.std.proofs.Common.{subst, List, Any}
 use Rattle.std.specs.Prelude.{IfOk}
 use Rattle.bcder.specs.calls.Meaning.{Encoded}
-use Rattle.bcder.specs.calls.Joined.{EachOf, Joined}
+use Rattle.bcder.specs.calls.Meaning.{EachOf, Joined}
 use Rattle.bcder.specs.calls.Encoders.{TellsSize}
 use Rattle.bcder.specs.calls.Noted.{ReadsEach, Notes}
 use Rattle.bcder.proofs.encode.values.lists.VecEncoder.measured.Goals as goal

@@ -1,6 +1,6 @@
 use Rattle.std.proofs.Common.{subst, sym, List, Any}
 use Rattle.std.specs.Prelude.{IfOk}
-use Rattle.bcder.specs.calls.Joined.{EachOf, Joined}
+use Rattle.bcder.specs.calls.Meaning.{EachOf, Joined}
 use Rattle.bcder.specs.calls.Encoders.{WritesEncoding, into_result}
 use Rattle.bcder.specs.calls.Meaning.{IsOne}
 use Rattle.bcder.specs.calls.Noted.{ReadsEach, MayRead, HasRead}

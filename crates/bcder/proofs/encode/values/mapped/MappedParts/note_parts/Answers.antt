@@ -1,6 +1,6 @@
 use Rattle.std.proofs.Common.{subst, sym, drop, ◌+◌}
-use Rattle.bcder.specs.calls.Joined.{EachOf}
-use Rattle.bcder.specs.calls.Slices.{ItemMeans, MayMap}
+use Rattle.bcder.specs.calls.Meaning.{EachOf}
+use Rattle.bcder.specs.calls.Iterated.{ItemMeans, MayMap}
 use Rattle.bcder.proofs.Joining.{SumSoFar, so_far_start, so_far_next, so_far_refused, so_far_done, sum_refused, EachOf_at, EachOf_end}
 use Rattle.bcder.proofs.encode.values.mapped.MappedParts.note_parts.Goals as goal
 

@@ -1,6 +1,6 @@
 use Rattle.std.proofs.Common.{drop}
-use Rattle.bcder.specs.calls.Joined.{EachOf}
-use Rattle.bcder.specs.calls.Slices.{ItemMeans}
+use Rattle.bcder.specs.calls.Meaning.{EachOf}
+use Rattle.bcder.specs.calls.Iterated.{ItemMeans}
 use Rattle.bcder.proofs.Joining.{SumSoFar}
 use Rattle.bcder.proofs.encode.values.mapped.MappedParts.note_parts.Given as goal
 

@@ -1,6 +1,6 @@
 use Rattle.std.proofs.Common.{subst, sym, drop, ◌+◌}
-use Rattle.bcder.specs.calls.Joined.{EachOf}
-use Rattle.bcder.specs.calls.Slices.{ItemMeans, ItemLacks, MayMap}
+use Rattle.bcder.specs.calls.Meaning.{EachOf}
+use Rattle.bcder.specs.calls.Iterated.{ItemMeans, ItemLacks, MayMap}
 use Rattle.bcder.proofs.Writing.{halts, lacks_more, same_result}
 use Rattle.bcder.proofs.Joining.{WrittenSoFar, written_start, next_known, written_next, written_failed, written_done, EachOf_at, EachOf_end}
 use Rattle.bcder.proofs.encode.values.mapped.MappedParts.write_parts.Goals as goal

@@ -1,5 +1,5 @@
 use Rattle.std.proofs.Common.{subst, sym, All}
-use Rattle.bcder.specs.calls.Slices.{MayMap}
+use Rattle.bcder.specs.calls.Iterated.{MayMap}
 use Rattle.bcder.proofs.encode.values.mapped.SliceEncoder.measured.Goals as goal
 
 pub note_joined-requires : goal.note_joined-requires

@@ -1,6 +1,6 @@
 use Rattle.std.proofs.Common.{subst, sym, All, List, Any}
-use Rattle.bcder.specs.calls.Slices.{MayMap, ItemMeans, ItemLacks}
-use Rattle.bcder.specs.calls.Joined.{EachOf, Joined}
+use Rattle.bcder.specs.calls.Iterated.{MayMap, ItemMeans, ItemLacks}
+use Rattle.bcder.specs.calls.Meaning.{EachOf, Joined}
 use Rattle.bcder.specs.calls.Encoders.{WritesEncoding, into_result}
 use Rattle.bcder.specs.calls.Meaning.{IsOne}
 use Rattle.bcder.proofs.encode.values.mapped.SliceEncoder.put.Goals as goal

@@ -1,4 +1,4 @@
-use Rattle.bcder.specs.calls.Refusals.{nothing}
+use Rattle.bcder.specs.calls.Content.{nothing}
 use Rattle.bcder.specs.calls.Capturing.{of_captured}
 use Rattle.bcder.specs.calls.Cause.{cause_of}
 use Rattle.bcder.specs.calls.Sources.{capturing}
@@ -11,7 +11,7 @@ use Rattle.bcder.proofs.decode.content.fn.Constructed.capture_one.capture.Goals 
 
 pub returns-in-Ok-None : goal.returns-in-Ok-None
 returns-in-Ok-None g c =
-    let n = rw c.in-Ok-None.field-0-is at c.in-Ok-None.ensures.skipped.none in
+    let n = rw c.in-Ok-None.field-0-is at c.in-Ok-None.ensures.skipped.value in
     record {
       moves = c.skip_one.ensures.moves;
       passed = record {
@@ -34,7 +34,7 @@ returns-in-Err g c = record {
     passed = tt;
     no_fault = tt;
     refused = one_refused (of_captured g.S.Source.stream c.args.cons.now)
-        (of_captured g.S.Source.stream c.skip_one.new.self) c.in-Err.error c.in-Err.ensures.skipped.refused;
+        (of_captured g.S.Source.stream c.skip_one.new.self) c.in-Err.error c.in-Err.ensures.skipped.refused.1;
     marked = c.skip_one.ensures.skipped.marked;
   };
 }

@@ -1,7 +1,5 @@
--- Unsigned numbers of octets, the most significant first.
+-- Octets that begin with zeros.
 use Rattle.std.specs.Prelude.{◌≡◌, ◌≢◌, ◌≤◌, ◌<◌, ◌-◌, ℕ, List, [], ◌∷◌, length, drop}
-use Rattle.bcder.specs.declared.int.error.IntegerError.{IntegerError}
-use Rattle.bcder.specs.declared.int.error.IntegerError.TheVariants.{Invalid, NoMemory}
 use Rattle.bcder.specs.x690.Length.{big_endian}
 
 -- there are no octets, or the first is not 0
@@ -15,8 +13,3 @@ pub record BeginsWithZeros (w : List ℕ) (n : ℕ) : Type 0 where
   pub number : big_endian (drop n w) ≡ big_endian w
   pub last : 0 < n → drop (n - 1) w ≡ 0 ∷ drop n w
   pub next : BeginsAboveZero (drop n w)
-
--- one of two facts, by the reason why no integer was made
-abbrev pub MatchIntegerError : IntegerError → Type 0 → Type 0 → Type 0
-MatchIntegerError (Invalid e) A B = A
-MatchIntegerError NoMemory A B = B
