@@ -154,15 +154,45 @@ pub fn certificates(octets: &[u8]) -> ParseResult<usize> {
     })
 }
 
+/// An extension of an entry.
+struct Extension<'a> {
+    id: &'a [u8],
+    critical: bool,
+    value: &'a [u8],
+}
+
+impl Extension<'_> {
+    /// The octets of its encoding, all of whose lengths are short.
+    fn encoded_len(&self) -> usize {
+        self.id.len() + self.value.len() + if self.critical { 9 } else { 6 }
+    }
+}
+
+fn entry_extensions<'a>(from: &mut Parser<'a>) -> ParseResult<Vec<Extension<'a>>> {
+    sequence(from, |from| {
+        let mut extensions = Vec::new();
+        while !from.is_empty() {
+            extensions.push(sequence(from, |from| {
+                let id = next(from)?.data();
+                let critical = from.read_element::<Option<bool>>()?.unwrap_or(false);
+                let value = from.read_element::<&[u8]>()?;
+                Ok(Extension { id, critical, value })
+            })?);
+        }
+        Ok(extensions)
+    })
+}
+
 struct Entry<'a> {
     serial: BigInt<'a>,
     date: &'a [u8],
-    more: Option<&'a [u8]>,
+    extensions: Option<Vec<Extension<'a>>>,
 }
 
 impl Entry<'_> {
     fn sum(&self) -> usize {
-        self.serial.as_bytes().len() + self.date.len() + self.more.map_or(0, |it| it.len())
+        let more: usize = self.extensions.iter().flatten().map(Extension::encoded_len).sum();
+        self.serial.as_bytes().len() + self.date.len() + more
     }
 }
 
@@ -170,12 +200,12 @@ fn entry<'a>(from: &mut Parser<'a>) -> ParseResult<Entry<'a>> {
     sequence(from, |from| {
         let serial = from.read_element::<BigInt>()?;
         let date = next(from)?.data();
-        let more = if from.is_empty() {
+        let extensions = if from.is_empty() {
             None
         } else {
-            Some(next(from)?.data())
+            Some(entry_extensions(from)?)
         };
-        Ok(Entry { serial, date, more })
+        Ok(Entry { serial, date, extensions })
     })
 }
 

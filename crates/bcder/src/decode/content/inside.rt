@@ -101,7 +101,7 @@ impl<'a, S: Source> Inside for Primitive<'a, S> {
     fn finish(&mut self) -> Result<(), DecodeError<S::Error>> {
         match self.source.limit() {
             Some(0) => Ok(()),
-            _ => Err(self.refusal("octets left in a primitive value")),
+            _ => self.answer_refusal("octets left in a primitive value"),
         }
     }
 }

@@ -75,7 +75,7 @@ impl<'a, S: Source> Constructed<'a, S> {
     {
         match self.take_opt_primitive(op) {
             Ok(Some(value)) => Ok(value),
-            Ok(None) => Err(self.refusal("no value at the end of the content")),
+            Ok(None) => self.answer_refusal("no value at the end of the content"),
             Err(error) => Err(error),
         }
     }
@@ -138,7 +138,7 @@ impl<'a, S: Source> Constructed<'a, S> {
     {
         match self.take_opt_primitive_if(tag, op) {
             Ok(Some(value)) => Ok(value),
-            Ok(None) => Err(self.expected_tag_error(tag)),
+            Ok(None) => self.answer_expected_tag(tag),
             Err(error) => Err(error),
         }
     }

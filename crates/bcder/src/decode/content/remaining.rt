@@ -1,12 +1,12 @@
 //! The octets that remain of a primitive value.
-ghost use Rattle.std.specs.Prelude.{◌≡◌, [], length, Some, IfErr, OnOk, OnErr};
+ghost use Rattle.std.specs.Prelude.{◌≡◌, [], length, Some, IfErr, IsErrAnd, OnOk, OnErr};
 ghost use Rattle.bcder.specs.calls.Cause.{IsRefusal};
 ghost use Rattle.bcder.specs.calls.Stream.{limit_or};
 ghost use Rattle.bcder.specs.calls.Readers.{AreNeverRefused, RefusesReading};
 ghost use Rattle.bcder.specs.calls.Views.{of_primitive, octets_before, octets_after, MovedOctets};
 
 use super::Primitive;
-use crate::decode::error::{ContentError, DecodeError};
+use crate::decode::error::DecodeError;
 use crate::decode::source::Source;
 
 impl<'a, S: Source> Primitive<'a, S> {
@@ -54,23 +54,22 @@ impl<'a, S: Source> Primitive<'a, S> {
             Some(owed) => match self.source.request(owed) {
                 Ok(found) => {
                     if found < owed {
-                        return Err(self.too_few_octets());
+                        return self.answer_too_few();
                     }
                     self.source.advance(owed);
                     Ok(())
                 }
                 Err(error) => Err(DecodeError::Source(error)),
             },
-            None => Err(self.too_few_octets()),
+            None => self.answer_too_few(),
         }
     }
 
-    /// Returns an error that refuses the octets as too few, at the current position.
-    #[cold]
-    pub(super) fn too_few_octets(&self) -> DecodeError<S::Error>
-        ensures { IsRefusal result }
+    /// Refuses the octets as too few, at the current position.
+    #[inline(always)]
+    pub(super) fn answer_too_few<T>(&self) -> Result<T, DecodeError<S::Error>>
+        ensures { IsErrAnd result IsRefusal }
     {
-        self.source
-            .content_err(ContentError::from_static("unexpected end of data"))
+        self.answer_refusal("unexpected end of data")
     }
 }

@@ -75,7 +75,7 @@ impl<'a, S: Source> Constructed<'a, S> {
     {
         match self.take_opt_constructed(op) {
             Ok(Some(value)) => Ok(value),
-            Ok(None) => Err(self.refusal("no value at the end of the content")),
+            Ok(None) => self.answer_refusal("no value at the end of the content"),
             Err(error) => Err(error),
         }
     }
@@ -140,7 +140,7 @@ impl<'a, S: Source> Constructed<'a, S> {
     {
         match self.take_opt_constructed_if(tag, op) {
             Ok(Some(value)) => Ok(value),
-            Ok(None) => Err(self.expected_tag_error(tag)),
+            Ok(None) => self.answer_expected_tag(tag),
             Err(error) => Err(error),
         }
     }
@@ -167,7 +167,7 @@ impl<'a, S: Source> Constructed<'a, S> {
     {
         match self.take_opt_constructed_if(Tag::SEQUENCE, op) {
             Ok(Some(value)) => Ok(value),
-            Ok(None) => Err(self.expected_tag_error(Tag::SEQUENCE)),
+            Ok(None) => self.answer_expected_tag(Tag::SEQUENCE),
             Err(error) => Err(error),
         }
     }
@@ -220,7 +220,7 @@ impl<'a, S: Source> Constructed<'a, S> {
     {
         match self.take_opt_constructed_if(Tag::SET, op) {
             Ok(Some(value)) => Ok(value),
-            Ok(None) => Err(self.expected_tag_error(Tag::SET)),
+            Ok(None) => self.answer_expected_tag(Tag::SET),
             Err(error) => Err(error),
         }
     }

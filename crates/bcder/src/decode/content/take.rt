@@ -66,6 +66,17 @@ impl<'a, S: Source> Primitive<'a, S> {
     {
         self.source.content_err(ContentError::from_static(text))
     }
+
+    /// Returns a refusal at the current position as a result.
+    ///
+    /// It is a function of its own, so that no stack space is cleared for an error if nothing is
+    /// refused.
+    #[inline(always)]
+    pub(super) fn answer_refusal<T>(&self, text: &'static str) -> Result<T, DecodeError<S::Error>>
+        ensures { IsErrAnd result IsRefusal }
+    {
+        Err(self.refusal(text))
+    }
 }
 
 impl<'a, S: Source> Constructed<'a, S> {
@@ -123,6 +134,14 @@ impl<'a, S: Source> Constructed<'a, S> {
         ensures { TellsNone (tagged tag) result }
     {
         self.source.content_err(ContentError::ExpectedTag(tag))
+    }
+
+    /// Returns an error that refuses what doesn't have this tag as a result.
+    #[inline(always)]
+    pub(super) fn answer_expected_tag<T>(&self, tag: Tag) -> Result<T, DecodeError<S::Error>>
+        ensures { IsErrAnd result (TellsNone (tagged tag)) }
+    {
+        Err(self.expected_tag_error(tag))
     }
 
     /// Passes over the header of a value, whose octets have to fit into what is owed. The content

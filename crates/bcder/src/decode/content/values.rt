@@ -89,7 +89,7 @@ impl<'a, S: Source> Constructed<'a, S> {
     {
         match self.take_opt_value(op) {
             Ok(Some(value)) => Ok(value),
-            Ok(None) => Err(self.refusal("no value at the end of the content")),
+            Ok(None) => self.answer_refusal("no value at the end of the content"),
             Err(error) => Err(error),
         }
     }
@@ -161,7 +161,7 @@ impl<'a, S: Source> Constructed<'a, S> {
     {
         match self.take_opt_value_if(tag, op) {
             Ok(Some(value)) => Ok(value),
-            Ok(None) => Err(self.expected_tag_error(tag)),
+            Ok(None) => self.answer_expected_tag(tag),
             Err(error) => Err(error),
         }
     }
