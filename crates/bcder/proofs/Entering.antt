@@ -80,11 +80,11 @@ drop_rest n w h e l =
 
 -- ---- what was passed over
 
-empty_unread : (m : Mode) → read_header m [] ≡ None
+pub empty_unread : (m : Mode) → read_header m [] ≡ None
 unfolding read_header read_identifier
 empty_unread m = refl
 
-empty_unended : (m : Mode) → read_end m [] ≡ None
+pub empty_unended : (m : Mode) → read_end m [] ≡ None
 unfolding read_end
 empty_unended m = refl
 

@@ -67,6 +67,7 @@ pub mod Unwinding
 pub mod RunSteps
 pub mod SkipCalls
 pub mod Exactness
+pub mod OneFront
 pub mod Iterating
 pub mod Gathering
 pub mod Segments

@@ -12,6 +12,7 @@ pub mod Preorder
 pub mod Limits
 pub mod Integers
 pub mod Order
+pub mod Next
 pub mod Numbers
 pub mod Written
 pub mod Meanings

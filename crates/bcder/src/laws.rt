@@ -13,6 +13,7 @@ pub mod encoders;
 pub mod exactly;
 pub mod identifiers;
 pub mod integers;
+pub mod next;
 pub mod octet_strings;
 pub mod read_back;
 pub mod restricted_strings;
