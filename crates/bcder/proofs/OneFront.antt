@@ -10,21 +10,21 @@ use Rattle.bcder.specs.declared.length.Length.TheVariants.{Definite, Indefinite}
 use Rattle.bcder.specs.declared.decode.content.Kind.TheVariants as kind
 use Rattle.bcder.specs.declared.decode.content.State.TheVariants.{Open}
 use Rattle.bcder.specs.declared.decode.error.DecodeError.{DecodeError}
-use Rattle.bcder.specs.x690.Identifier.{AreOctets, Class, universal, application, context_specific, private, Tag, end_of_contents}
+use Rattle.bcder.specs.x690.Identifier.{Class, universal, application, context_specific, private, Tag, end_of_contents}
 use Rattle.bcder.specs.x690.Encoding.{Header}
 use Rattle.bcder.specs.steps.Reading.{read_identifier, read_header, read_end}
 use Rattle.bcder.specs.steps.Peek.{HasOtherTag}
 use Rattle.bcder.specs.steps.Entering.{NoFront}
 use Rattle.bcder.specs.calls.Cause.{cause_of}
 use Rattle.bcder.specs.calls.Stream.{Grew}
-use Rattle.bcder.specs.calls.Content.{Reading, ContentForm, Octets, values, Asked, any, tagged, IsAsked, HasHeader, Falls, FitsOwed, IsAtEnd}
+use Rattle.bcder.specs.calls.Content.{Reading, ContentForm, Octets, values, Asked, any, tagged, IsAsked, HasHeader, Falls, FitsOwed}
 use Rattle.bcder.specs.calls.Content.{of_definite, of_indefinite, of_unbounded, IsElsewhere, none_left, other, marker, IsAbsent, NothingThere}
 use Rattle.bcder.specs.calls.Content.{IsMissing, NamesFront, failed, source, nothing, otherwise}
 use Rattle.bcder.specs.calls.Calls.{HasNone, TellsNone, TakesValue, TakesNext, Takes, RefusesTake, by_header, by_form, by_content}
 use Rattle.bcder.specs.laws.Sound.{none_is}
 use Rattle.bcder.specs.laws.Stands.{header_sound}
 use Rattle.bcder.specs.laws.Next.{Front, value, ends, elsewhere, broken, HasFront, HasOneFront, NextAt, OneAt, RefusesFound}
-use Rattle.bcder.proofs.Moving.{open_not_ended, open_not_failed}
+use Rattle.bcder.proofs.Moving.{open_not_failed}
 use Rattle.bcder.proofs.Headers.{front_of_read, no_header_unread, no_header_long, no_marker_unread, marker_of_end, end_no_header, header_no_end}
 use Rattle.bcder.proofs.Headers.{end_identified, other_of, other_of_front}
 use Rattle.bcder.proofs.Entering.{Within, front_nothing, empty_nothing, unread_front, if_nothing, if_ended, if_unread, header_not_at_end}
@@ -99,24 +99,24 @@ module _ (c : Reading) (within : Within c) (k : c.kind ≢ Octets) (o : c.state 
       let q = falls_by c.owed (length p.octets) (λ n e. (let z : length c.stream.rest ≤ n = within.fits n e in omega (arith, z, l))) in
       let s : x ≡ drop (length p.octets) c.stream.rest = sym (ap (drop (length p.octets)) p.is ∙ drop_at p.octets x (length p.octets) refl) in
       elim (fits_or_not h.len q.0) [
-      | inl f ↦ inl (λ asked a. record {
-        tag = h.tag;
-        form = h.form;
-        len = h.len;
-        octets = p.octets;
-        is_header = p.is_header;
-        is_asked = a;
-        rest = p.is;
-        owed = q.0;
-        falls = q.1;
-        fits = f;
-      })
-      | inr f ↦ inr (record {
-        some = λ e. none_is _ (sym (empty_unread c.mode) ∙ subst (λ z. read_header c.mode z ≡ Some (h, x)) e r);
-        header = λ asked after z. no_header_long asked c after h (length p.octets) q.0
-            (subst (λ y. read_header c.mode c.stream.rest ≡ Some (h, y)) s r) (omega (arith, l)) q.1 f z;
-        marker = λ _ after m. no_marker_unread c.mode c.stream.rest after (header_no_end c.mode c.stream.rest h x r) m;
-      })
+        | inl f ↦ inl (λ asked a. record {
+          tag = h.tag;
+          form = h.form;
+          len = h.len;
+          octets = p.octets;
+          is_header = p.is_header;
+          is_asked = a;
+          rest = p.is;
+          owed = q.0;
+          falls = q.1;
+          fits = f;
+        })
+        | inr f ↦ inr (record {
+          some = λ e. none_is _ (sym (empty_unread c.mode) ∙ subst (λ z. read_header c.mode z ≡ Some (h, x)) e r);
+          header = λ asked after z. no_header_long asked c after h (length p.octets) q.0
+              (subst (λ y. read_header c.mode c.stream.rest ≡ Some (h, y)) s r) (omega (arith, l)) q.1 f z;
+          marker = λ _ after m. no_marker_unread c.mode c.stream.rest after (header_no_end c.mode c.stream.rest h x r) m;
+        })
       ]
 
   unended : (x : List ℕ) → read_end c.mode c.stream.rest ≡ Some x → c.kind ≢ values kind.Indefinite → NoFront c

@@ -13,7 +13,7 @@ use Rattle.bcder.specs.calls.Cause.{cause_of, of_source, of_memory}
 use Rattle.bcder.specs.calls.Stream.{Stream, Grew}
 use Rattle.bcder.specs.calls.Sources.{capturing}
 use Rattle.bcder.specs.calls.Captured.{Kept, AreWhole}
-use Rattle.bcder.specs.calls.Content.{ContentForm, Reading, values, label, Closes, Moves, EndsBefore, IsDone, any, Refuses}
+use Rattle.bcder.specs.calls.Content.{ContentForm, Reading, label, Closes, Moves, EndsBefore, IsDone, any, Refuses}
 use Rattle.bcder.specs.calls.Calls.{Answered, NextBy, Returns}
 use Rattle.bcder.specs.calls.Decoding.{RefusesOn}
 use Rattle.bcder.specs.calls.Views.{of_constructed, limited_stream}
@@ -88,8 +88,6 @@ abbrev pub of_captured : {S : Type 0} → (S → Stream) → Constructed (Captur
 of_captured stream = of_constructed (capturing (limited_stream stream))
 
 -- ---- the next value, or all values
-
--- ---- what both leave
 
 -- octets were captured, as Q says; or none were, content is as it was, and there is none of what is asked for; memory runs out
 -- only if there is some

@@ -1,5 +1,5 @@
 -- What a step over the header of the next value returns and leaves.
-use Rattle.std.specs.Prelude.{◌≡◌, ◌⊎◌, ℕ, Bool, true, List, Option, Some, Result, IfOk, IfErr, IfSome, IfNone, OnOk, OnErr, ◌≢◌, ◌+◌, ◌≤◌}
+use Rattle.std.specs.Prelude.{◌≡◌, ◌⊎◌, ℕ, Bool, true, List, Option, Some, Result, IfOk, IfErr, IfSome, IfNone, OnOk, OnErr, ◌≢◌, ◌≤◌}
 use Rattle.std.specs.Prelude.{[], ◌++◌, length}
 use Rattle.bcder.specs.declared.{decode.error.ContentError.ContentError, decode.error.ContentError.TheVariants.Static}
 use Rattle.bcder.specs.declared.{decode.violation.Violation.Violation, decode.header.Header.Header as CodeHeader}
@@ -9,7 +9,7 @@ use Rattle.bcder.specs.x690.Identifier.{Tag}
 use Rattle.bcder.specs.x690.Encoding.{IsHeader, Header}
 use Rattle.bcder.specs.calls.Cause.{Cause, of_content, IsOfContent}
 use Rattle.bcder.specs.calls.Content.{EndsBefore, HasHeader, Reading, Asked, tagged, IsAsked, NothingThere, Resembles, Violates, Refuses}
-use Rattle.bcder.specs.calls.Content.{Falls, FitsOwed, HasMarker, marker, values}
+use Rattle.bcder.specs.calls.Content.{Falls, FitsOwed, HasMarker, values}
 use Rattle.bcder.specs.calls.Calls.{HasNone}
 use Rattle.bcder.specs.calls.Violations.{violation_text}
 use Rattle.bcder.specs.steps.Peek.{header_of, octets_header}

@@ -1,5 +1,5 @@
 -- What the steps over the content of a value return and leave.
-use Rattle.std.specs.Prelude.{◌≡◌, ℕ, Bool, Option, Some, Result, Ok, Err, ◌≢◌, ◌||◌, ◌+◌, ◌-◌, false, List, ◌++◌, None, IfOk, IfErr, OnOk}
+use Rattle.std.specs.Prelude.{◌≡◌, ℕ, Bool, Option, Some, Result, Ok, Err, ◌≢◌, ◌||◌, ◌-◌, false, List, ◌++◌, None, IfOk, IfErr, OnOk}
 use Rattle.std.specs.Borrow.{MutBor}
 use Rattle.bcder.specs.declared.{length.Length.Length, decode.content.Constructed.Constructed, decode.content.Kind.Kind}
 use Rattle.bcder.specs.declared.{decode.error.DecodeError.DecodeError, decode.header.Header.Header as CodeHeader}

@@ -1,6 +1,6 @@
 -- What private steps of walking over values return and leave.
 use Rattle.std.specs.Borrow.{MutBor}
-use Rattle.std.specs.Prelude.{◌≡◌, ℕ, ◌≤◌, Bool, false, List, ◌++◌, length, take, Option, Result, IfOk, IfErr, OnOk, OnErr, IsTrue, ◌+◌}
+use Rattle.std.specs.Prelude.{◌≡◌, ℕ, ◌≤◌, Bool, false, List, ◌++◌, length, take, Option, Result, IfOk, IfErr, OnOk, OnErr, IsTrue}
 use denote.Triple.Both.{Both}
 use Rattle.bcder.specs.declared.{decode.content.State.TheVariants.Failed, decode.error.ContentError.ContentError, decode.stop.Stop.Stop}
 use Rattle.bcder.specs.declared.{decode.header.Header.Header as CodeHeader, decode.content.Constructed.Constructed}

@@ -101,7 +101,7 @@ impl<'a, S: Source> Inside for Primitive<'a, S> {
     fn finish(&mut self) -> Result<(), DecodeError<S::Error>> {
         match self.source.limit() {
             Some(0) => Ok(()),
-            _ => self.answer_refusal("octets left in a primitive value"),
+            _ => self.refuse("octets left in a primitive value"),
         }
     }
 }
@@ -254,7 +254,7 @@ impl<'a, S: Source> Constructed<'a, S> {
             (before S.stream self) (header_of header) result (after S.stream self) }
     {
         let Form::Primitive(len) = header.form else {
-            return self.answer_refusal("expected a primitive value");
+            return self.refuse("expected a primitive value");
         };
         let mode = self.mode;
         let source = &mut *self.source;
@@ -296,7 +296,7 @@ impl<'a, S: Source> Constructed<'a, S> {
             (before S.stream self) (header_of header) result (after S.stream self) }
     {
         let Form::Constructed(len) = header.form else {
-            return self.answer_refusal("expected a constructed value");
+            return self.refuse("expected a constructed value");
         };
         let mode = self.mode;
         let source = &mut *self.source;

@@ -42,7 +42,7 @@ impl<'a, S: Source> Constructed<'a, S> {
         let header = match self.next_header(Wanted::Any) {
             Ok(Some(header)) => header,
             Ok(None) => return Ok(None),
-            Err(stop) => return self.answer_stop(stop),
+            Err(stop) => return self.refuse_for(stop),
         };
         let tag = header.tag;
         self.take_primitive_body(
@@ -75,7 +75,7 @@ impl<'a, S: Source> Constructed<'a, S> {
     {
         match self.take_opt_primitive(op) {
             Ok(Some(value)) => Ok(value),
-            Ok(None) => self.answer_refusal("no value at the end of the content"),
+            Ok(None) => self.refuse("no value at the end of the content"),
             Err(error) => Err(error),
         }
     }
@@ -109,7 +109,7 @@ impl<'a, S: Source> Constructed<'a, S> {
         let len = match self.next_octets_if(tag) {
             Ok(Some(len)) => len,
             Ok(None) => return Ok(None),
-            Err(stop) => return self.answer_stop(stop),
+            Err(stop) => return self.refuse_for(stop),
         };
         self.take_primitive_body(octets_header(tag, len), op)
     }
@@ -138,7 +138,7 @@ impl<'a, S: Source> Constructed<'a, S> {
     {
         match self.take_opt_primitive_if(tag, op) {
             Ok(Some(value)) => Ok(value),
-            Ok(None) => self.answer_expected_tag(tag),
+            Ok(None) => self.refuse_without(tag),
             Err(error) => Err(error),
         }
     }

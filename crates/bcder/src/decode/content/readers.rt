@@ -72,13 +72,13 @@ impl<'a, S: Source> Primitive<'a, S> {
             Some(owed) => match self.source.request(owed) {
                 Ok(found) => {
                     if found < owed {
-                        return self.answer_too_few();
+                        return self.refuse_too_few();
                     }
                     Ok(owed)
                 }
                 Err(error) => Err(DecodeError::Source(error)),
             },
-            None => self.answer_too_few(),
+            None => self.refuse_too_few(),
         }
     }
 
@@ -147,7 +147,7 @@ impl<'a, S: Source> Primitive<'a, S> {
             Err(error) => return Err(error),
         };
         let Some(number) = number_at(self.all(len)) else {
-            return self.answer_refusal("no integer of this type");
+            return self.refuse("no integer of this type");
         };
         self.pass_all(len);
         Ok(number)
@@ -177,7 +177,7 @@ impl<'a, S: Source> Primitive<'a, S> {
                 self.pass_all(len);
                 Ok(truth)
             }
-            None => self.answer_refusal("no boolean"),
+            None => self.refuse("no boolean"),
         }
     }
 
@@ -200,7 +200,7 @@ impl<'a, S: Source> Primitive<'a, S> {
             self.pass_all(len);
             Ok(())
         } else {
-            self.answer_refusal("octets in a null")
+            self.refuse("octets in a null")
         }
     }
 
@@ -239,7 +239,7 @@ impl<'a, S: Source> Primitive<'a, S> {
             Err(error) => return Err(error),
         };
         if !is_smallest(self.all(len)) {
-            return self.answer_refusal("no integer");
+            return self.refuse("no integer");
         }
         match self.bytes_of_all(alloc, len) {
             Ok(octets) => {
@@ -262,7 +262,7 @@ impl<'a, S: Source> Primitive<'a, S> {
             Err(error) => return Err(error),
         };
         if !is_unsigned(self.all(len)) {
-            return self.answer_refusal("no integer that isn't negative");
+            return self.refuse("no integer that isn't negative");
         }
         match self.bytes_of_all(alloc, len) {
             Ok(octets) => {

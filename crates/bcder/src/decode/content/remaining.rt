@@ -54,22 +54,22 @@ impl<'a, S: Source> Primitive<'a, S> {
             Some(owed) => match self.source.request(owed) {
                 Ok(found) => {
                     if found < owed {
-                        return self.answer_too_few();
+                        return self.refuse_too_few();
                     }
                     self.source.advance(owed);
                     Ok(())
                 }
                 Err(error) => Err(DecodeError::Source(error)),
             },
-            None => self.answer_too_few(),
+            None => self.refuse_too_few(),
         }
     }
 
     /// Refuses the octets as too few, at the current position.
     #[inline(always)]
-    pub(super) fn answer_too_few<T>(&self) -> Result<T, DecodeError<S::Error>>
+    pub(super) fn refuse_too_few<T>(&self) -> Result<T, DecodeError<S::Error>>
         ensures { IsErrAnd result IsRefusal }
     {
-        self.answer_refusal("unexpected end of data")
+        self.refuse("unexpected end of data")
     }
 }

@@ -41,7 +41,7 @@ impl<'a, S: Source> Constructed<'a, S> {
         let header = match self.next_header(Wanted::Any) {
             Ok(Some(header)) => header,
             Ok(None) => return Ok(None),
-            Err(stop) => return self.answer_stop(stop),
+            Err(stop) => return self.refuse_for(stop),
         };
         let tag = header.tag;
         self.take_constructed_body(
@@ -75,7 +75,7 @@ impl<'a, S: Source> Constructed<'a, S> {
     {
         match self.take_opt_constructed(op) {
             Ok(Some(value)) => Ok(value),
-            Ok(None) => self.answer_refusal("no value at the end of the content"),
+            Ok(None) => self.refuse("no value at the end of the content"),
             Err(error) => Err(error),
         }
     }
@@ -110,7 +110,7 @@ impl<'a, S: Source> Constructed<'a, S> {
         let header = match self.next_header(Wanted::Tagged(tag)) {
             Ok(Some(header)) => header,
             Ok(None) => return Ok(None),
-            Err(stop) => return self.answer_stop(stop),
+            Err(stop) => return self.refuse_for(stop),
         };
         self.take_constructed_body(header, op)
     }
@@ -140,7 +140,7 @@ impl<'a, S: Source> Constructed<'a, S> {
     {
         match self.take_opt_constructed_if(tag, op) {
             Ok(Some(value)) => Ok(value),
-            Ok(None) => self.answer_expected_tag(tag),
+            Ok(None) => self.refuse_without(tag),
             Err(error) => Err(error),
         }
     }
@@ -167,7 +167,7 @@ impl<'a, S: Source> Constructed<'a, S> {
     {
         match self.take_opt_constructed_if(Tag::SEQUENCE, op) {
             Ok(Some(value)) => Ok(value),
-            Ok(None) => self.answer_expected_tag(Tag::SEQUENCE),
+            Ok(None) => self.refuse_without(Tag::SEQUENCE),
             Err(error) => Err(error),
         }
     }
@@ -220,7 +220,7 @@ impl<'a, S: Source> Constructed<'a, S> {
     {
         match self.take_opt_constructed_if(Tag::SET, op) {
             Ok(Some(value)) => Ok(value),
-            Ok(None) => self.answer_expected_tag(Tag::SET),
+            Ok(None) => self.refuse_without(Tag::SET),
             Err(error) => Err(error),
         }
     }

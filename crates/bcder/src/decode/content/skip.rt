@@ -405,7 +405,7 @@ impl<'a, S: Source> Constructed<'a, S> {
     {
         match self.skip_opt(alloc, op) {
             Ok(Some(())) => Ok(()),
-            Ok(None) => self.answer_refusal("no value at the end of the content"),
+            Ok(None) => self.refuse("no value at the end of the content"),
             Err(error) => Err(error),
         }
     }

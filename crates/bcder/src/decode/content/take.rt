@@ -72,7 +72,7 @@ impl<'a, S: Source> Primitive<'a, S> {
     /// It is a function of its own, so that no stack space is cleared for an error if nothing is
     /// refused.
     #[inline(always)]
-    pub(super) fn answer_refusal<T>(&self, text: &'static str) -> Result<T, DecodeError<S::Error>>
+    pub(super) fn refuse<T>(&self, text: &'static str) -> Result<T, DecodeError<S::Error>>
         ensures { IsErrAnd result IsRefusal }
     {
         Err(self.refusal(text))
@@ -93,7 +93,7 @@ impl<'a, S: Source> Constructed<'a, S> {
     /// It is a function of its own, so that no stack space is cleared for an error if nothing is
     /// refused.
     #[inline(always)]
-    pub(super) fn answer_refusal<T>(&self, text: &'static str) -> Result<T, DecodeError<S::Error>>
+    pub(super) fn refuse<T>(&self, text: &'static str) -> Result<T, DecodeError<S::Error>>
         ensures { IsErrAnd result IsRefusal }
     {
         Err(self.refusal(text))
@@ -120,9 +120,9 @@ impl<'a, S: Source> Constructed<'a, S> {
     }
 
     /// Returns the error for a stop as a result. It is a function of its own for the same reason
-    /// as `answer_refusal`.
+    /// as `refuse`.
     #[inline(always)]
-    pub(super) fn answer_stop<T>(&self, stop: Stop<S::Error>) -> Result<T, DecodeError<S::Error>>
+    pub(super) fn refuse_for<T>(&self, stop: Stop<S::Error>) -> Result<T, DecodeError<S::Error>>
         ensures { IsErrAnd result (λ e. cause_of e ≡ stop_cause stop) }
     {
         Err(self.stop_error(stop))
@@ -136,9 +136,9 @@ impl<'a, S: Source> Constructed<'a, S> {
         self.source.content_err(ContentError::ExpectedTag(tag))
     }
 
-    /// Returns an error that refuses what doesn't have this tag as a result.
+    /// Returns, as a result, an error that refuses what doesn't have this tag.
     #[inline(always)]
-    pub(super) fn answer_expected_tag<T>(&self, tag: Tag) -> Result<T, DecodeError<S::Error>>
+    pub(super) fn refuse_without<T>(&self, tag: Tag) -> Result<T, DecodeError<S::Error>>
         ensures { IsErrAnd result (TellsNone (tagged tag)) }
     {
         Err(self.expected_tag_error(tag))

@@ -54,7 +54,7 @@ impl<'a, S: Source> Constructed<'a, S> {
         let header = match self.next_header(Wanted::Any) {
             Ok(Some(header)) => header,
             Ok(None) => return Ok(None),
-            Err(stop) => return self.answer_stop(stop),
+            Err(stop) => return self.refuse_for(stop),
         };
         let tag = header.tag;
         self.take_body(
@@ -89,7 +89,7 @@ impl<'a, S: Source> Constructed<'a, S> {
     {
         match self.take_opt_value(op) {
             Ok(Some(value)) => Ok(value),
-            Ok(None) => self.answer_refusal("no value at the end of the content"),
+            Ok(None) => self.refuse("no value at the end of the content"),
             Err(error) => Err(error),
         }
     }
@@ -134,7 +134,7 @@ impl<'a, S: Source> Constructed<'a, S> {
         let header = match self.next_header(Wanted::Tagged(tag)) {
             Ok(Some(header)) => header,
             Ok(None) => return Ok(None),
-            Err(stop) => return self.answer_stop(stop),
+            Err(stop) => return self.refuse_for(stop),
         };
         self.take_body(header, op)
     }
@@ -161,7 +161,7 @@ impl<'a, S: Source> Constructed<'a, S> {
     {
         match self.take_opt_value_if(tag, op) {
             Ok(Some(value)) => Ok(value),
-            Ok(None) => self.answer_expected_tag(tag),
+            Ok(None) => self.refuse_without(tag),
             Err(error) => Err(error),
         }
     }

@@ -29,7 +29,7 @@ impl<'a, S: Source> Primitive<'a, S> {
             Err(error) => return Err(error),
         };
         if !is_bit_string(self.mode(), self.all(len)) {
-            return self.answer_refusal("no bit string");
+            return self.refuse("no bit string");
         }
         match self.bits_of_all(alloc, len) {
             Ok(bits) => {
@@ -54,7 +54,7 @@ impl<'a, S: Source> Primitive<'a, S> {
             self.pass_all(len);
             Ok(())
         } else {
-            self.answer_refusal("no bit string")
+            self.refuse("no bit string")
         }
     }
 }

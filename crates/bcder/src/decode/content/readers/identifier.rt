@@ -26,7 +26,7 @@ impl<'a, S: Source> Primitive<'a, S> {
             Err(error) => return Err(error),
         };
         if !is_complete(self.all(len)) {
-            return self.answer_refusal("no object identifier");
+            return self.refuse("no object identifier");
         }
         match self.bytes_of_all(alloc, len) {
             Ok(octets) => {
@@ -51,7 +51,7 @@ impl<'a, S: Source> Primitive<'a, S> {
             self.pass_all(len);
             Ok(())
         } else {
-            self.answer_refusal("no object identifier")
+            self.refuse("no object identifier")
         }
     }
 
@@ -69,7 +69,7 @@ impl<'a, S: Source> Primitive<'a, S> {
             self.pass_all(len);
             Ok(())
         } else {
-            self.answer_refusal("another object identifier")
+            self.refuse("another object identifier")
         }
     }
 }

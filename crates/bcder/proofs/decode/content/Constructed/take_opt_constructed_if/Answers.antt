@@ -53,4 +53,4 @@ unfolding of_constructed
 returns-in-Err-clause-took g c =
     next_answered (of_constructed g.S.Source.stream) _ (Some false) (tagged c.args.tag) (of_constructed g.S.Source.stream c.args.self.now)
     (of_constructed g.S.Source.stream c.next_header.new.self) c.next_header.ensures.mode
-    stop_cause _ _ c.answer_stop.ensures c.next_header.ensures.marked c.in-Err.ensures.failed c.in-Err.ensures.refused
+    stop_cause _ _ c.refuse_for.ensures c.next_header.ensures.marked c.in-Err.ensures.failed c.in-Err.ensures.refused

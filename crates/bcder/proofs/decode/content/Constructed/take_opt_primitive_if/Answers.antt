@@ -71,4 +71,4 @@ unfolding of_constructed
 returns-in-Err-clause-took g c =
     next_stops (of_primitive g.S.Source.stream) _ (of_constructed g.S.Source.stream c.args.self.now)
     (of_constructed g.S.Source.stream c.next_octets_if.new.self) c.next_octets_if.ensures.entered.mode c.args.tag
-    stop_cause _ _ c.answer_stop.ensures c.next_octets_if.ensures.entered.marked c.in-Err.ensures.entered.failed c.in-Err.ensures.entered.refused
+    stop_cause _ _ c.refuse_for.ensures c.next_octets_if.ensures.entered.marked c.in-Err.ensures.entered.failed c.in-Err.ensures.entered.refused

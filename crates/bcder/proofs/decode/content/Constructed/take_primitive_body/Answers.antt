@@ -12,7 +12,7 @@ use Rattle.bcder.proofs.decode.content.Constructed.take_primitive_body.Goals as 
 
 pub returns-in_default : goal.returns-in_default
 returns-in_default g c =
-    form_answered (of_primitive g.S.Source.stream) _ (Some true) _ (header_of c.args.header) _ _ c.answer_refusal.ensures (ap Some (sym (search rules))) refl
+    form_answered (of_primitive g.S.Source.stream) _ (Some true) _ (header_of c.args.header) _ _ c.refuse.ensures (ap Some (sym (search rules))) refl
 
 pub returns-in-Err : goal.returns-in-Err
 unfolding of_constructed of_primitive
