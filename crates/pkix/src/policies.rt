@@ -12,6 +12,8 @@ use std::alloc::Global;
 /// The policies under which a certificate was issued (RFC 5280, section 4.2.1.4).
 ///
 ///     certificatePolicies ::= SEQUENCE SIZE (1..MAX) OF PolicyInformation
+///
+/// An empty list is read too.
 pub type CertificatePolicies = SequenceOf<PolicyInformation>;
 
 /// Which policy it is.
@@ -24,6 +26,8 @@ pub type CertPolicyId = ObjectIdentifier;
 ///     PolicyInformation ::= SEQUENCE {
 ///         policyIdentifier  CertPolicyId,
 ///         policyQualifiers  SEQUENCE SIZE (1..MAX) OF PolicyQualifierInfo OPTIONAL }
+///
+/// An empty list of qualifiers is read too.
 #[derive(Debug, Drop)]
 pub struct PolicyInformation {
     /// Which policy it is.
@@ -173,6 +177,8 @@ impl EncodeParts for PolicyQualifierInfo {
 ///     PolicyMappings ::= SEQUENCE SIZE (1..MAX) OF SEQUENCE {
 ///         issuerDomainPolicy   CertPolicyId,
 ///         subjectDomainPolicy  CertPolicyId }
+///
+/// An empty list is read too.
 pub type PolicyMappings = SequenceOf<PolicyMapping>;
 
 /// A policy of another that is as good as one of the issuer.

@@ -98,7 +98,7 @@ impl EncodeParts for RsaPublicKey {
 ///
 ///     OtherPrimeInfos ::= SEQUENCE SIZE (1..MAX) OF OtherPrimeInfo
 ///
-/// Any version from 0 to 255 is read.
+/// Any version from 0 to 255 is read, and an empty list of primes.
 #[derive(Debug, Drop)]
 pub struct RsaPrivateKey {
     /// 0 with two primes, and 1 with more.
