@@ -8,3 +8,5 @@ pub mod malformed;
 pub mod replay;
 pub mod row;
 pub mod tally;
+#[cfg(test)]
+mod tests;
