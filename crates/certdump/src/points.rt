@@ -5,10 +5,10 @@ use crate::general_name::{show_each, show_names, text_of_general};
 use crate::name::title_of;
 use crate::page::Page;
 use crate::shown::{Capitals, magnitude};
-use distribution_points::{
-    CrlDistributionPoints, DistributionPoint, DistributionPointName, IssuingDistributionPoint,
+use extensions::{
+    AuthorityInfoAccess, AuthorityKeyIdentifier, CrlDistributionPoints, DistributionPoint,
+    DistributionPointName, IssuingDistributionPoint,
 };
-use extensions::{AuthorityInfoAccess, AuthorityKeyIdentifier};
 use std::alloc::AllocError;
 
 /// Why certificates are revoked, by the position of the bit.

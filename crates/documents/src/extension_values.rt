@@ -1,9 +1,9 @@
 //! Values of extensions.
 use crate::structures::{Tallies, compare};
 use anyhow::Error;
-use distribution_points::{CrlDistributionPoints, IssuingDistributionPoint};
 use extensions::{
-    AuthorityInfoAccess, AuthorityKeyIdentifier, DisplayText, NameConstraints, UserNotice,
+    AuthorityInfoAccess, AuthorityKeyIdentifier, CrlDistributionPoints, DisplayText,
+    IssuingDistributionPoint, NameConstraints, UserNotice,
 };
 use pkix::{KeyUsage, ReasonCode, SubjectDirectoryAttributes};
 use std::alloc::Global;

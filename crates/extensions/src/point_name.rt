@@ -31,7 +31,7 @@ pub enum DistributionPointName {
     NameRelativeToCrlIssuer(Implicit<Context<1>, RelativeDistinguishedName>),
 }
 
-ghost use Rattle.distribution_points.specs.declared.point_name.DistributionPointName.TheVariants as name;
+ghost use Rattle.extensions.specs.declared.point_name.DistributionPointName.TheVariants as name;
 
 /// What defines [`DistributionPointName`].
 type DistributionPointNameParts = Choice2<

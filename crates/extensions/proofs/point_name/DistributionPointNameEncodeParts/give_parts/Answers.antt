@@ -1,4 +1,4 @@
-use Rattle.distribution_points.proofs.point_name.DistributionPointNameEncodeParts.give_parts.Goals as goal
+use Rattle.extensions.proofs.point_name.DistributionPointNameEncodeParts.give_parts.Goals as goal
 
 pub returns-in-FullName : goal.returns-in-FullName
 returns-in-FullName g c = rw c.in-FullName.is c.use_alternative.ensures
